@@ -1,0 +1,61 @@
+// Bytes copied by whole blocks of 16, for the stores' memory.
+ghost use mathlib.Core.Path.{_≡_};
+ghost use Prim.Native.Nat.{_+_, _-_, _≤_};
+ghost use lib.ListN.{drop, length, take};
+ghost use lib.Seq.{paste};
+ghost use Rattle.store.specs.Copying.{front-copied};
+
+const BLOCK: usize = 16;
+
+// Copies `from` to the front of `to`, as many bytes as both have; the rest of `to` stays.
+pub fn copy_front(to: &mut [u8], from: &[u8])
+    ensures { λ _. ⌜ now (to .exit) ≡ front-copied (now (to .entry)) (now (from .entry)) ⌝ }
+{
+    let count = to.len().min(from.len());
+    let done = copy_blocks(to, from, count);
+    copy_bytes(to, from, done, count);
+}
+
+// Copies whole blocks, of `count` bytes as many as they fill, and answers how many bytes they have.
+fn copy_blocks(to: &mut [u8], from: &[u8], count: usize) -> usize
+    requires to_room { ⌜ count ≤ length (now to) ⌝ }
+    requires from_room { ⌜ count ≤ length (now from) ⌝ }
+    ensures within { λ r. ⌜ r ≤ count ⌝ }
+    ensures copies { λ r. ⌜ now (to .exit) ≡ paste (now (to .entry)) 0 (now (from .entry)) r ⌝ }
+{
+    let mut at = 0;
+    while count - at >= BLOCK {
+        write_block(to, at, block_at(from, at));
+        at += BLOCK;
+    }
+    at
+}
+
+// Copies the bytes from `start` to `end`.
+fn copy_bytes(to: &mut [u8], from: &[u8], start: usize, end: usize)
+    requires forward { ⌜ start ≤ end ⌝ }
+    requires to_room { ⌜ end ≤ length (now to) ⌝ }
+    requires from_room { ⌜ end ≤ length (now from) ⌝ }
+    ensures { λ _. ⌜ now (to .exit) ≡ paste (now (to .entry)) start (drop start (now (from .entry))) (end - start) ⌝ }
+{
+    for i in start..end {
+        to[i] = from[i];
+    }
+}
+
+fn block_at(bytes: &[u8], at: usize) -> [u8; 16]
+    requires { ⌜ at + 16 ≤ length (now bytes) ⌝ }
+    ensures { λ r. ⌜ r ≡ take 16 (drop at (now (bytes .entry))) ⌝ }
+{
+    match bytes[at..].first_chunk::<16>() {
+        Some(block) => *block,
+        None => unreachable(),
+    }
+}
+
+fn write_block(bytes: &mut [u8], at: usize, block: [u8; 16])
+    requires { ⌜ at + 16 ≤ length (now bytes) ⌝ }
+    ensures { λ _. ⌜ now (bytes .exit) ≡ paste (now (bytes .entry)) at block 16 ⌝ }
+{
+    bytes[at..at + 16].copy_from_slice(&block);
+}
