@@ -1,16 +1,16 @@
--- Copies into a list, block by block and byte by byte. Assumes nothing.
+-- Copies into a list and within it, block by block and byte by byte. Assumes nothing.
 use mathlib.Core.Path.{_≡_, refl, sym, ap, _∙_}
 use mathlib.Core.List.{List, [], _++_}
 use mathlib.Core.Logic.{⊎-elim}
 use Prim.Native.Nat.{ℕ, _+_, _-_, _<_, _≤_, min}
-use native.Mathlib.Nat.{zero-add}
+use native.Mathlib.Nat.{zero-add, add-zero}
 use native.Mathlib.Omega.{arith}
-use lib.ListN.{length, take, drop, length-drop}
-use lib.Seq.{paste, take-add}
-use Rattle.std.proofs.shelf.Lists.{take-take, take-all, drop-all, length-take-le}
-use Rattle.std.proofs.shelf.Edits.{paste-paste}
+use lib.ListN.{length, getD, take, drop, set, length-drop}
+use lib.Seq.{paste, take-add, getD-drop}
+use Rattle.std.proofs.shelf.Lists.{take-take, take-all, drop-all, drop-drop, length-take-le}
+use Rattle.std.proofs.shelf.Edits.{paste-none, paste-paste, paste-more, drop-paste}
 use Rattle.std.proofs.shelf.Tests.{cases-lt}
-use Rattle.store.specs.Copying.{front-copied}
+use Rattle.store.specs.Copying.{front-copied, moved-down}
 
 -- a copy of n elements does not look at the others
 paste-short : (d : List ℕ) (at : ℕ) (s : List ℕ) (n : ℕ) → paste d at s n ≡ paste d at (take n s) n
@@ -58,3 +58,56 @@ front-count d s n is =
     (λ (lt : length s < length d). front-short d s n (omega arith) (omega arith))
     (λ (le : length d ≤ length s). front-full d s n (omega arith) (omega arith))
     (cases-lt (length s) (length d))
+
+-- bytes that move down: none yet
+pub down-none : (d : List ℕ) (start gap end : ℕ) → end ≤ start → d ≡ moved-down d start gap end
+down-none d start gap end le =
+    let none : 0 ≡ end - start = omega arith in
+    paste-none d start (drop (start + gap) d) ∙ ap (λ k. paste d start (drop (start + gap) d) k) none
+
+module _ (d : List ℕ) (start gap at : ℕ) (forward : start ≤ at) where
+  -- what has yet to move stands where it stood
+  pub down-behind : at + gap ≤ length d → drop (at + gap) (moved-down d start gap at) ≡ drop (at + gap) d
+  down-behind room =
+      let s = drop (start + gap) d in
+      let n = at - start in
+      let place : start + n ≡ at = omega arith in
+      let here : drop at (moved-down d start gap at) ≡ drop at d =
+      ap (λ k. drop k (paste d start s n)) (sym place) ∙ drop-paste d start s n (omega arith) (omega (arith, length-drop (start + gap) d)) ∙ ap (λ k. drop k d) place in
+      sym (drop-drop gap at (moved-down d start gap at)) ∙ ap (λ l. drop gap l) here ∙ drop-drop gap at d
+
+  -- a block more
+  pub down-block : (m : ℕ) (block : List ℕ) → at + m + gap ≤ length d → block ≡ take m (drop (at + gap) (moved-down d start gap at)) → paste (moved-down d start gap at) at block m ≡ moved-down d start gap (at + m)
+  down-block m block room is =
+      let s = drop (start + gap) d in
+      let n = at - start in
+      let place : start + n ≡ at = omega arith in
+      let sum : start + gap + n ≡ at + gap = omega arith in
+      let next : n + m ≡ at + m - start = omega arith in
+      let fresh : block ≡ take m (drop n s) =
+      is ∙ ap (λ l. take m l) (down-behind (omega arith) ∙ ap (λ k. drop k d) (sym sum) ∙ sym (drop-drop n (start + gap) d)) in
+      ap (λ k. paste (moved-down d start gap at) k block m) (sym place)
+      ∙ paste-block d start s n m block (omega arith) (omega (arith, length-drop (start + gap) d)) fresh ∙ ap (λ k. paste d start s k) next
+
+  -- all the rest
+  pub down-rest : (end : ℕ) → at ≤ end → end + gap ≤ length d → moved-down (moved-down d start gap at) at gap end ≡ moved-down d start gap end
+  down-rest end le room =
+      let cur = moved-down d start gap at in
+      let m = end - at in
+      let all : at + m ≡ end = omega arith in
+      paste-short cur at (drop (at + gap) cur) m ∙ down-block m (take m (drop (at + gap) cur)) (omega arith) refl ∙ ap (λ k. moved-down d start gap k) all
+
+  -- a byte more
+  pub down-byte : at + 1 + gap ≤ length d → set (moved-down d start gap at) at (getD (moved-down d start gap at) (at + gap) 0) ≡ moved-down d start gap (at + 1)
+  down-byte room =
+      let s = drop (start + gap) d in
+      let cur = moved-down d start gap at in
+      let n = at - start in
+      let place : start + n ≡ at = omega arith in
+      let sum : start + gap + n ≡ at + gap = omega arith in
+      let next : n + 1 ≡ at + 1 - start = omega arith in
+      let front : (l : List ℕ) → getD l (at + gap) 0 ≡ getD (drop (at + gap) l) 0 0 = λ l. ap (λ k. getD l k 0) (sym (add-zero (at + gap))) ∙ sym (getD-drop (at + gap) l 0 0) in
+      let byte : getD cur (at + gap) 0 ≡ getD s n 0 =
+      front cur ∙ ap (λ l. getD l 0 0) (down-behind (omega arith)) ∙ sym (front d) ∙ ap (λ k. getD d k 0) (sym sum) ∙ sym (getD-drop (start + gap) d n 0) in
+      ap (λ x. set cur at x) byte ∙ ap (λ k. set cur k (getD s n 0)) (sym place)
+      ∙ paste-more d start s n 0 (omega arith) (omega (arith, length-drop (start + gap) d)) ∙ ap (λ k. paste d start s k) next

@@ -3,7 +3,7 @@ ghost use mathlib.Core.Path.{_≡_};
 ghost use Prim.Native.Nat.{_+_, _-_, _≤_};
 ghost use lib.ListN.{drop, length, take};
 ghost use lib.Seq.{paste};
-ghost use Rattle.store.specs.Copying.{front-copied};
+ghost use Rattle.store.specs.Copying.{front-copied, gap-closed, moved-down};
 
 const BLOCK: usize = 16;
 
@@ -40,6 +40,52 @@ fn copy_bytes(to: &mut [u8], from: &[u8], start: usize, end: usize)
 {
     for i in start..end {
         to[i] = from[i];
+    }
+}
+
+// Takes the `size` bytes at `at` out of `bytes`: what stood behind them moves down over them, and the
+// last `size` bytes stay as they are. Nothing moves where nothing stood behind them.
+pub fn close_gap(bytes: &mut [u8], at: usize, size: usize)
+    ensures { λ _. ⌜ now (bytes .exit) ≡ gap-closed (now (bytes .entry)) at size ⌝ }
+{
+    let Some(from) = at.checked_add(size) else {
+        return;
+    };
+    if from >= bytes.len() {
+        return;
+    }
+    let end = bytes.len() - size;
+    let next = move_blocks(bytes, at, size, end);
+    move_bytes(bytes, next, size, end);
+}
+
+// Moves bytes down by `gap`, to the places from `start` on: whole blocks, as many as end by `end`.
+// Answers the place behind them.
+fn move_blocks(bytes: &mut [u8], start: usize, gap: usize, end: usize) -> usize
+    requires forward { ⌜ start ≤ end ⌝ }
+    requires room { ⌜ end + gap ≤ length (now bytes) ⌝ }
+    ensures from { λ r. ⌜ start ≤ r ⌝ }
+    ensures within { λ r. ⌜ r ≤ end ⌝ }
+    ensures moves { λ r. ⌜ now (bytes .exit) ≡ moved-down (now (bytes .entry)) start gap r ⌝ }
+{
+    let mut at = start;
+    while end - at >= BLOCK {
+        let block = block_at(bytes, at + gap);
+        write_block(bytes, at, block);
+        at += BLOCK;
+    }
+    at
+}
+
+// Moves the bytes for the places from `start` to `end` down by `gap`.
+fn move_bytes(bytes: &mut [u8], start: usize, gap: usize, end: usize)
+    requires forward { ⌜ start ≤ end ⌝ }
+    requires room { ⌜ end + gap ≤ length (now bytes) ⌝ }
+    ensures { λ _. ⌜ now (bytes .exit) ≡ moved-down (now (bytes .entry)) start gap end ⌝ }
+{
+    for at in start..end {
+        let byte = bytes[at + gap];
+        bytes[at] = byte;
     }
 }
 
