@@ -12,6 +12,7 @@ ghost use Rattle.store.specs.Refusal.{outcome};
 mod blocks;
 mod fault;
 
+pub use blocks::close_gap;
 pub use blocks::copy_front;
 pub use fault::Layer;
 pub use fault::LayerDebug;
