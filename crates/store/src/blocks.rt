@@ -1,6 +1,6 @@
 // Bytes copied by whole blocks of 16, for the stores' memory.
 ghost use mathlib.Core.Path.{_≡_};
-ghost use Prim.Native.Nat.{_+_, _-_, _≤_};
+ghost use Prim.Native.Nat.{_+_, _-_, _<_, _≤_, min};
 ghost use lib.ListN.{drop, length, take};
 ghost use lib.Seq.{paste};
 ghost use Rattle.store.specs.Copying.{front-copied, gap-closed, moved-down};
@@ -12,6 +12,14 @@ pub fn copy_front(to: &mut [u8], from: &[u8])
     ensures { λ _. ⌜ now (to .exit) ≡ front-copied (now (to .entry)) (now (from .entry)) ⌝ }
 {
     let count = to.len().min(from.len());
+    copy_count(to, from, count);
+}
+
+// The same, with the number of bytes that both have.
+fn copy_count(to: &mut [u8], from: &[u8], count: usize)
+    requires { ⌜ count ≡ min (length (now to)) (length (now from)) ⌝ }
+    ensures { λ _. ⌜ now (to .exit) ≡ front-copied (now (to .entry)) (now (from .entry)) ⌝ }
+{
     let done = copy_blocks(to, from, count);
     copy_bytes(to, from, done, count);
 }
@@ -54,6 +62,14 @@ pub fn close_gap(bytes: &mut [u8], at: usize, size: usize)
     if from >= bytes.len() {
         return;
     }
+    move_down(bytes, at, size);
+}
+
+// The same where something stands behind.
+fn move_down(bytes: &mut [u8], at: usize, size: usize)
+    requires { ⌜ at + size < length (now bytes) ⌝ }
+    ensures { λ _. ⌜ now (bytes .exit) ≡ gap-closed (now (bytes .entry)) at size ⌝ }
+{
     let end = bytes.len() - size;
     let next = move_blocks(bytes, at, size, end);
     move_bytes(bytes, next, size, end);

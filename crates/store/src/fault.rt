@@ -17,9 +17,9 @@ impl Layer {
         ensures { λ r. ⌜ now r ≡ layer-text (now (self .entry)) ⌝ }
     {
         match self {
-            Layer::Kernel => "kernel",
-            Layer::Mailbox => "mailbox",
-            Layer::Store => "store",
+            Self::Kernel => "kernel",
+            Self::Mailbox => "mailbox",
+            Self::Store => "store",
         }
     }
 }

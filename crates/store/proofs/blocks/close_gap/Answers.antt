@@ -1,9 +1,7 @@
-use mathlib.Core.Path.{ap, _∙_}
 use Prim.Native.Nat.{_-_}
 use native.Mathlib.Omega.{arith}
 use lib.ListN.{length}
-use Rattle.store.specs.Copying.{moved-down}
-use Rattle.store.proofs.Copied.{down-none, down-rest}
+use Rattle.store.proofs.Copied.{down-none}
 use Rattle.store.proofs.blocks.close_gap.Needs as need
 
 pub returns-in-rest : need.returns-in-rest
@@ -13,12 +11,3 @@ returns-in-rest c =
 pub returns-then-from-bytes : need.returns-then-from-bytes
 returns-then-from-bytes c =
     down-none (c .args .bytes .now) (c .args .at) (c .args .size) (length (c .args .bytes .now) - c .args .size) (omega arith)
-
-pub returns : need.returns
-returns c =
-    let d = c .args .bytes .now in
-    let end = length d - c .args .size in
-    let next = c .move-blocks-next .result in
-    let m = c .move-blocks-next .ensures in
-    c .move-bytes .ensures ∙ ap (λ l. moved-down l next (c .args .size) end) (m .moves)
-    ∙ down-rest d (c .args .at) (c .args .size) next (m .from) end (omega arith) (omega arith)
