@@ -57,14 +57,15 @@ full-row n wanted free holds =
     record { tells = record { number = 20; layer = Store; place = n; units = Some (record { wanted = wanted; free = free }) }; holds = holds }
 
 -- put: BAD_LENGTH, HELD, STORE_FULL
-abbrev pub put-answer : ℕ → (ℕ → ℕ) → Contents → ℕ → ℕ → List ℕ → Result (Unit {0}) Told
-put-answer capacity cost h used n bytes =
-    tried
-    (row 17 Store n (eqb (length bytes) 0 || ltb 128 (length bytes))
+abbrev pub put-rows : ℕ → (ℕ → ℕ) → Contents → ℕ → ℕ → List ℕ → List Row
+put-rows capacity cost h used n bytes =
+    row 17 Store n (eqb (length bytes) 0 || ltb 128 (length bytes))
     ∷ row 18 Store n (isSome (h n))
     ∷ full-row n (cost (length bytes)) (capacity - used) (ltb capacity (used + cost (length bytes)))
-    ∷ [])
-    tt
+    ∷ []
+
+abbrev pub put-answer : ℕ → (ℕ → ℕ) → Contents → ℕ → ℕ → List ℕ → Result (Unit {0}) Told
+put-answer capacity cost h used n bytes = tried (put-rows capacity cost h used n bytes) tt
 
 -- what is held and used after a put: as before if it was refused
 abbrev pub held-after-put : Result (Unit {0}) StoreFault → Contents → ℕ → List ℕ → Contents
@@ -75,12 +76,14 @@ abbrev pub used-after-put : (ℕ → ℕ) → Result (Unit {0}) StoreFault → �
 used-after-put cost (Ok _) used bytes = used + cost (length bytes)
 used-after-put cost (Err _) used bytes = used
 
--- copy: NOT_HELD, CRAMPED, or the length of what is held
+-- copy: NOT_HELD, CRAMPED
+abbrev pub copy-rows : Contents → ℕ → List ℕ → List Row
+copy-rows h n buffer =
+    row 19 Store n (not (isSome (h n))) ∷ row 21 Store n (ltb (length buffer) (length (bytes-in (h n)))) ∷ []
+
+-- an accepted copy answers the length of what is held
 abbrev pub copy-answer : Contents → ℕ → List ℕ → Result ℕ Told
-copy-answer h n buffer =
-    tried
-    (row 19 Store n (not (isSome (h n))) ∷ row 21 Store n (ltb (length buffer) (length (bytes-in (h n)))) ∷ [])
-    (length (bytes-in (h n)))
+copy-answer h n buffer = tried (copy-rows h n buffer) (length (bytes-in (h n)))
 
 -- the buffer after a copy: the bytes at its front and the rest as it was, or all as it was if it was refused
 abbrev pub buffer-after-copy : Result ℕ StoreFault → List ℕ → List ℕ → List ℕ
@@ -88,8 +91,11 @@ buffer-after-copy (Ok _) bytes buffer = bytes ++ drop (length bytes) buffer
 buffer-after-copy (Err _) bytes buffer = buffer
 
 -- discard: NOT_HELD
+abbrev pub discard-rows : Contents → ℕ → List Row
+discard-rows h n = row 19 Store n (not (isSome (h n))) ∷ []
+
 abbrev pub discard-answer : Contents → ℕ → Result (Unit {0}) Told
-discard-answer h n = tried (row 19 Store n (not (isSome (h n))) ∷ []) tt
+discard-answer h n = tried (discard-rows h n) tt
 
 -- what is held after a discard: as before if it was refused
 abbrev pub held-after-discard : Result (Unit {0}) StoreFault → Contents → ℕ → Contents
