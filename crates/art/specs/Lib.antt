@@ -1,0 +1,4 @@
+pub mod Answers
+pub mod Counting
+pub mod Refusals
+pub mod Ordering
