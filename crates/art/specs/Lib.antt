@@ -1,4 +1,5 @@
 pub mod Answers
-pub mod Counting
-pub mod Refusals
 pub mod Ordering
+pub mod State
+pub mod Rules
+pub mod Record

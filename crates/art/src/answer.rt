@@ -2,7 +2,7 @@
 ghost use mathlib.Core.Path.{_≡_};
 ghost use Rattle.std.specs.declared.option.Option.the-variants.{Some};
 ghost use Rattle.art.specs.Answers.{status-text, answer-text, counts-text};
-ghost use Rattle.art.specs.Counting.{count-accepted, count-displaced, count-handed-over, count-withdrawn, no-message};
+ghost use Rattle.art.specs.State.{count-accepted, count-displaced, count-handed-over, count-withdrawn, no-message};
 use std::fmt;
 
 #[derive(Clone, Copy, Debug, PartialEq, Eq)]
