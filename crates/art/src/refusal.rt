@@ -147,8 +147,8 @@ impl Refusal {
 pub impl From<StoreFault> for Refusal as RefusalFromStore {
     ghost converts = { λ fault r. told r ≡ store-told fault };
 
-    fn from(fault: StoreFault) -> Refusal {
-        Refusal::Store(fault)
+    fn from(refused: StoreFault) -> Refusal {
+        Refusal::Store(refused)
     }
 }
 
