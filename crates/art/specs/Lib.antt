@@ -1,5 +1,5 @@
 pub mod Answers
-pub mod Ordering
 pub mod State
+pub mod Verbs
 pub mod Rules
 pub mod Record

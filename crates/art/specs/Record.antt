@@ -2,7 +2,8 @@
 use mathlib.Core.List.{List, [], _∷_}
 use Prim.Native.Nat.{ℕ}
 use Rattle.art.specs.State.{Kind, State, initial, running, with-counter}
-use Rattle.art.specs.Rules.{Effect, Reply, Number, Counted, Silent, create-task, create-mailbox, terminate, remove-mailbox, send-wait, send-no-wait, receive-wait, receive-no-wait, wait, collect, set-deadline, set-ticks, tick, deadline-of}
+use Rattle.art.specs.Verbs.{deadline-of}
+use Rattle.art.specs.Rules.{Effect, Reply, Number, Counted, Silent, create-task, create-mailbox, terminate, remove-mailbox, send-wait, send-no-wait, receive-wait, receive-no-wait, wait, collect, set-deadline, set-ticks, tick}
 
 -- one line: a call with its arguments, the bytes sent and the buffer lent among them
 pub data Line : Type 0 where

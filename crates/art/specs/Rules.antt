@@ -3,30 +3,28 @@ use mathlib.Core.List.{List, [], _∷_, _++_}
 use mathlib.Core.Bool.{Bool, true, false, cond, not, _&&_, _||_}
 use Prim.Native.Nat.{ℕ, zero, suc, _+_, _-_, min}
 use lib.Dec.{eqb, leb, ltb}
-use lib.ListN.{drop, length}
+use lib.ListN.{length}
 use Rattle.std.specs.Options.{isSome}
 use Rattle.std.specs.declared.option.Option.{Option}
 use Rattle.std.specs.declared.option.Option.the-variants.{Some, None}
 use Rattle.std.specs.declared.result.Result.{Result}
 use Rattle.std.specs.declared.result.Result.the-variants.{Ok, Err}
 use Rattle.store.specs.declared.fault.Layer.the-variants.{Kernel as KERNEL, Mailbox as MAILBOX}
-use Rattle.store.specs.Meaning.{Contents, with, without, bytes-in, units-in, put-rows, copy-rows, discard-rows}
+use Rattle.store.specs.Meaning.{bytes-in, units-in, put-rows, copy-rows, discard-rows}
 use Rattle.store.specs.Refusal.{Told, Row, row}
 use Rattle.art.specs.declared.answer.Answer.{Answer}
 use Rattle.art.specs.declared.answer.Counts.{Counts}
 use Rattle.art.specs.declared.answer.Status.{Status}
-use Rattle.art.specs.declared.answer.Status.the-variants.{Ok as OK, Blocked as BLOCKED, DeadlineReached as DEADLINE-REACHED}
+use Rattle.art.specs.declared.answer.Status.the-variants.{Ok as OK, Blocked as BLOCKED}
 use Rattle.art.specs.declared.task.Activity.{Activity}
 use Rattle.art.specs.declared.task.Activity.the-variants.{Ready, Receiving, Sending, Asleep}
 use Rattle.art.specs.declared.task.Due.{Due}
 use Rattle.art.specs.declared.task.Due.the-variants.{Sent, Given, Plain}
-use Rattle.art.specs.declared.task.Event.{Event}
 use Rattle.art.specs.declared.task.Event.the-variants.{HandOver, Withdrawal, Tick}
 use Rattle.art.specs.declared.task.Message.{Message}
 use Rattle.art.specs.declared.task.Task.{Task}
-use Rattle.art.specs.declared.task.Urgency.{Urgency}
-use Rattle.art.specs.State.{count-accepted, count-handed-over, count-withdrawn, count-displaced}
-use Rattle.art.specs.State.{Kind, Mailbox, State, top, last-task, running, with-counter, with-next, with-task, with-mailbox, with-ready, with-store, with-counts}
+use Rattle.art.specs.State.{Kind, Mailbox, State, top, last-task, running, with-counter, with-task, with-mailbox, with-ready, with-counts, count-handed-over, count-withdrawn, count-displaced}
+use Rattle.art.specs.Verbs.{due-of, with-deadline, removed, block, settle, enter, wake, mailbox-at, edit-mailbox, oldest, queue, unqueue, join-receivers, leave-oldest, leave-receivers, is-empty, fills, other-mode, accept, release, written, take-out, wake-sender, choose}
 
 -- what a line answers: a call's answer or refusal, a number, what a tick did, the counts, or nothing
 pub data Reply : Type 0 where
@@ -66,131 +64,6 @@ displacing n d = record { status = OK; message = Some n; length = None; displace
 abbrev pub bringing : ℕ → ℕ → Answer
 bringing n l = record { status = OK; message = Some n; length = Some l; displaced = None }
 
--- Tasks
-
--- the answer that a task has yet to collect
-abbrev pub due-of : Option Task → Option Due
-due-of None = None
-due-of (Some x) = x .due
-
-abbrev pub deadline-of : Option Task → ℕ
-deadline-of None = 0
-deadline-of (Some x) = x .urgency .deadline
-
-abbrev pub doing : Activity → Option Task → Option Task
-doing a None = None
-doing a (Some x) = Some (record { urgency = x .urgency; activity = a; due = x .due })
-
-abbrev pub settled : Option Task → Option Task
-settled None = None
-settled (Some x) = Some (record { urgency = x .urgency; activity = x .activity; due = None })
-
-abbrev pub with-deadline : ℕ → Option Task → Option Task
-with-deadline d None = None
-with-deadline d (Some x) =
-    Some (record { urgency = record { deadline = d; level = x .urgency .level }; activity = x .activity; due = x .due })
-
--- a sleeper at a tick: its deadline ends the sleep first, else its wake tick
-abbrev pub wakes : ℕ → ℕ → ℕ → Option Due
-wakes deadline until counter =
-    cond (leb deadline counter) (Some (Plain DEADLINE-REACHED)) (cond (leb until counter) (Some (Plain OK)) None)
-
--- what a task has due once an event has made it ready, by what it does; nothing where the event does not concern it
-abbrev pub due-after : ℕ → Activity → Event → Option Due
-due-after d Ready e = None
-due-after d (Receiving m) (HandOver n) = Some (Given n)
-due-after d (Receiving m) Withdrawal = Some (Plain DEADLINE-REACHED)
-due-after d (Receiving m) (Tick c) = None
-due-after d (Sending m n) (HandOver k) = Some (Sent OK n)
-due-after d (Sending m n) Withdrawal = Some (Sent DEADLINE-REACHED n)
-due-after d (Sending m n) (Tick c) = None
-due-after d (Asleep until) (HandOver n) = None
-due-after d (Asleep until) Withdrawal = None
-due-after d (Asleep until) (Tick c) = wakes d until c
-
--- a list without the first t
-abbrev pub removed : ℕ → List ℕ → List ℕ
-removed t [] = []
-removed t (u ∷ us) = cond (eqb t u) us (u ∷ removed t us)
-
--- the running task leaves the ready list to wait or to sleep
-abbrev pub block : State → Activity → State
-block s a = with-ready (with-task s (running s) (doing a (s .tasks (running s)))) (removed (running s) (s .ready))
-
--- the running task has collected its answer
-abbrev pub settle : State → State
-settle s = with-task s (running s) (settled (s .tasks (running s)))
-
--- Mailboxes
-
--- the mailbox of a number; one with no room stands for a number that is not in use
-abbrev pub mailbox-in : Option Mailbox → Mailbox
-mailbox-in None = record { capacity = 0; size = 0; messages = []; receivers = [] }
-mailbox-in (Some b) = b
-
-abbrev pub mailbox-at : State → ℕ → Mailbox
-mailbox-at s m = mailbox-in (s .mailboxes m)
-
-abbrev pub with-messages : Mailbox → List Message → Mailbox
-with-messages b xs = record { capacity = b .capacity; size = b .size; messages = xs; receivers = b .receivers }
-
-abbrev pub with-receivers : Mailbox → List ℕ → Mailbox
-with-receivers b ts = record { capacity = b .capacity; size = b .size; messages = b .messages; receivers = ts }
-
-abbrev pub edited : (Mailbox → Mailbox) → Option Mailbox → Option Mailbox
-edited f None = None
-edited f (Some b) = Some (f b)
-
--- the mailbox of a number, changed where it is in use
-abbrev pub edit-mailbox : State → ℕ → (Mailbox → Mailbox) → State
-edit-mailbox s m f = with-mailbox s m (edited f (s .mailboxes m))
-
-abbrev pub oldest : {A : Type 0} → List A → Option A
-oldest [] = None
-oldest (x ∷ xs) = Some x
-
-abbrev pub others : {A : Type 0} → List A → List A
-others [] = []
-others (x ∷ xs) = xs
-
--- a queue without the message n
-abbrev pub unqueued : ℕ → List Message → List Message
-unqueued n [] = []
-unqueued n (x ∷ xs) = cond (eqb n (x .number)) xs (x ∷ unqueued n xs)
-
--- a message comes to the end of the queue; the oldest leaves it; the message n leaves it
-abbrev pub queue : Message → Mailbox → Mailbox
-queue x b = with-messages b (b .messages ++ (x ∷ []))
-
-abbrev pub unqueue-oldest : Mailbox → Mailbox
-unqueue-oldest b = with-messages b (others (b .messages))
-
-abbrev pub unqueue : ℕ → Mailbox → Mailbox
-unqueue n b = with-messages b (unqueued n (b .messages))
-
--- a receiver comes to the end of the receivers; the oldest leaves them; task t leaves them
-abbrev pub join-receivers : ℕ → Mailbox → Mailbox
-join-receivers t b = with-receivers b (b .receivers ++ (t ∷ []))
-
-abbrev pub leave-oldest : Mailbox → Mailbox
-leave-oldest b = with-receivers b (others (b .receivers))
-
-abbrev pub leave-receivers : ℕ → Mailbox → Mailbox
-leave-receivers t b = with-receivers b (removed t (b .receivers))
-
-abbrev pub is-empty : {A : Type 0} → List A → Bool
-is-empty [] = true
-is-empty (x ∷ xs) = false
-
--- as many as the mailbox has room for
-abbrev pub fills : {A : Type 0} → Mailbox → List A → Bool
-fills b xs = leb (b .capacity) (length xs)
-
--- whether the sender of the oldest message waits with it differs from the mode given; all queued ones are of one mode
-abbrev pub other-mode : Bool → Option Message → Bool
-other-mode waiting None = false
-other-mode waiting (Some x) = cond waiting (not (isSome (x .sender))) (isSome (x .sender))
-
 -- Rows that several calls have
 
 -- 1 ANSWER_DUE
@@ -225,71 +98,9 @@ mixed s m waiting = row 12 MAILBOX m (other-mode waiting (oldest (mailbox-at s m
 abbrev pub numbers-spent : State → Row
 numbers-spent s = row 16 KERNEL (running s) (ltb top (s .next))
 
--- whether the first of two tasks goes before the second
-abbrev pub urgent : Kind → Option Task → Option Task → Bool
-urgent kind None y = false
-urgent kind (Some x) None = false
-urgent kind (Some x) (Some y) = kind .before (x .urgency) (y .urgency)
-
--- the first state where the test holds, else the second
-unfoldable pub choose : Bool → State → State → State
-choose b x y = cond b x y
-
--- the bytes of message n at the front of a buffer, and the rest as it was
-abbrev pub written : State → ℕ → List ℕ → List ℕ
-written s n buffer = bytes-in (s .held n) ++ drop (length (bytes-in (s .held n))) buffer
-
--- What the calls are made of
-
--- t in front of the first task that it goes before, or else just in front of task 0
-unfoldable pub entered : Kind → (ℕ → Option Task) → ℕ → List ℕ → List ℕ
-entered kind tasks t [] = t ∷ []
-entered kind tasks t (u ∷ us) = cond (eqb u 0 || urgent kind (tasks t) (tasks u)) (t ∷ u ∷ us) (u ∷ entered kind tasks t us)
-
--- a task enters the ready list
-abbrev pub enter : Kind → State → ℕ → State
-enter kind s t = with-ready s (entered kind (s .tasks) t (s .ready))
-
--- a task that an event concerns becomes ready, with its answer due
-abbrev pub rouse : Kind → State → ℕ → Task → Option Due → State
-rouse kind s t x None = s
-rouse kind s t x (Some d) = enter kind (with-task s t (Some (record { urgency = x .urgency; activity = Ready; due = Some d }))) t
-
-abbrev pub wake-task : Kind → State → ℕ → Event → Option Task → State
-wake-task kind s t e None = s
-wake-task kind s t e (Some x) = rouse kind s t x (due-after (x .urgency .deadline) (x .activity) e)
-
-abbrev pub wake : Kind → State → ℕ → Event → State
-wake kind s t e = wake-task kind s t e (s .tasks t)
-
--- the bytes are held under the next number, which is used up
-abbrev pub accept : Kind → State → List ℕ → State
-accept kind s bytes =
-    with-counts (with-next (with-store s (with (s .held) (s .next) bytes) (s .used + kind .cost (length bytes))) (s .next + 1)) (count-accepted (s .counts))
-
--- the bytes of message n leave the store
-abbrev pub release : Kind → State → ℕ → State
-release kind s n = with-store s (without (s .held) n) (s .used - units-in (kind .cost) (s .held n))
-
--- an accepted message goes to the oldest receiver, if there is one, or to the end of the queue, where its sender may wait
-abbrev pub arrive : Kind → State → ℕ → ℕ → Option ℕ → Option ℕ → Option ℕ → Effect
-arrive kind s m n sender d (Some r) =
-    accepted (displacing n d) (wake kind (with-counts (edit-mailbox s m leave-oldest) (count-handed-over (s .counts))) r (HandOver n)) []
-arrive kind s m n (Some t) d None =
-    accepted (naming BLOCKED n) (block (edit-mailbox s m (queue (record { number = n; sender = Some t }))) (Sending m n)) []
-arrive kind s m n None d None = accepted (displacing n d) (edit-mailbox s m (queue (record { number = n; sender = None }))) []
-
--- the oldest message of a mailbox leaves it, and its bytes the store
-abbrev pub take-out : Kind → State → ℕ → Message → (Counts → Counts) → State
-take-out kind s m x count = with-counts (edit-mailbox (release kind s (x .number)) m unqueue-oldest) (count (s .counts))
-
--- the sender that waited with a message is told of its hand-over
-abbrev pub wake-sender : Kind → State → Message → Option ℕ → State
-wake-sender kind s x None = s
-wake-sender kind s x (Some t) = wake kind s t (HandOver (x .number))
-
 -- Tasks come and go
 
+-- create_task: number, deadline, level
 abbrev pub create-task-rows : State → ℕ → ℕ → List Row
 create-task-rows s t l =
     answer-due s
@@ -303,6 +114,7 @@ create-task kind s t d l =
     unless s [] (create-task-rows s t l)
     (accepted (plain OK) (enter kind (with-task s t (Some (record { urgency = record { deadline = d; level = l }; activity = Ready; due = None }))) t) [])
 
+-- terminate
 abbrev pub terminate-rows : State → List Row
 terminate-rows s = answer-due s ∷ idle-calls s ∷ []
 
@@ -313,6 +125,7 @@ terminate s =
 
 -- Mailboxes come and go
 
+-- create_mailbox: number, capacity, size
 abbrev pub create-mailbox-rows : State → ℕ → ℕ → ℕ → List Row
 create-mailbox-rows s m c z =
     answer-due s
@@ -326,6 +139,7 @@ create-mailbox s m c z =
     unless s [] (create-mailbox-rows s m c z)
     (accepted (plain OK) (with-mailbox s m (Some (record { capacity = c; size = z; messages = []; receivers = [] }))) [])
 
+-- remove_mailbox
 abbrev pub remove-mailbox-rows : State → ℕ → List Row
 remove-mailbox-rows s m =
     answer-due s
@@ -339,6 +153,15 @@ remove-mailbox s m = unless s [] (remove-mailbox-rows s m) (accepted (plain OK) 
 
 -- Sends
 
+-- an accepted message goes to the oldest receiver, if there is one, or to the end of the queue, where its sender may wait
+abbrev pub arrive : Kind → State → ℕ → ℕ → Option ℕ → Option ℕ → Option ℕ → Effect
+arrive kind s m n sender d (Some r) =
+    accepted (displacing n d) (wake kind (with-counts (edit-mailbox s m leave-oldest) (count-handed-over (s .counts))) r (HandOver n)) []
+arrive kind s m n (Some t) d None =
+    accepted (naming BLOCKED n) (block (edit-mailbox s m (queue (record { number = n; sender = Some t }))) (Sending m n)) []
+arrive kind s m n None d None = accepted (displacing n d) (edit-mailbox s m (queue (record { number = n; sender = None }))) []
+
+-- send_wait: mailbox, bytes
 abbrev pub send-wait-rows : Kind → State → ℕ → List ℕ → List Row
 send-wait-rows kind s m bytes =
     answer-due s
@@ -377,6 +200,7 @@ abbrev pub number-in : Option Message → Option ℕ
 number-in None = None
 number-in (Some x) = Some (x .number)
 
+-- send_no_wait: mailbox, bytes
 abbrev pub send-no-wait-rows : Kind → State → ℕ → List ℕ → List Row
 send-no-wait-rows kind s m bytes =
     answer-due s
@@ -395,6 +219,7 @@ send-no-wait kind s m bytes =
 
 -- Receives
 
+-- what the taking of the oldest message asks of the store
 abbrev pub take-rows : State → List ℕ → Option Message → List Row
 take-rows s buffer None = []
 take-rows s buffer (Some x) = copy-rows (s .held) (x .number) buffer
@@ -406,6 +231,7 @@ receive kind s m buffer (Some x) =
 receive kind s m buffer None =
     accepted (plain BLOCKED) (block (edit-mailbox s m (join-receivers (running s))) (Receiving m)) buffer
 
+-- receive_wait: mailbox, buffer
 abbrev pub receive-wait-rows : State → ℕ → List ℕ → List Row
 receive-wait-rows s m buffer =
     answer-due s
@@ -420,6 +246,7 @@ abbrev pub receive-wait : Kind → State → ℕ → List ℕ → Effect
 receive-wait kind s m buffer =
     unless s buffer (receive-wait-rows s m buffer) (receive kind s m buffer (oldest (mailbox-at s m .messages)))
 
+-- receive_no_wait: mailbox, buffer
 abbrev pub receive-no-wait-rows : State → ℕ → List ℕ → List Row
 receive-no-wait-rows s m buffer =
     answer-due s
@@ -435,12 +262,14 @@ receive-no-wait kind s m buffer =
 
 -- Time
 
+-- wait: ticks
 abbrev pub wait-rows : State → ℕ → List Row
 wait-rows s n = answer-due s ∷ idle-calls s ∷ row 15 KERNEL (running s) (ltb top (s .counter + n)) ∷ []
 
 abbrev pub wait : State → ℕ → Effect
 wait s n = unless s [] (wait-rows s n) (accepted (plain BLOCKED) (block s (Asleep (s .counter + n))) [])
 
+-- set_deadline
 abbrev pub set-deadline-rows : State → List Row
 set-deadline-rows s = answer-due s ∷ idle-calls s ∷ []
 
@@ -449,6 +278,7 @@ set-deadline kind s d =
     unless s [] (set-deadline-rows s)
     (accepted (plain OK) (enter kind (with-ready (with-task s (running s) (with-deadline d (s .tasks (running s)))) (removed (running s) (s .ready))) (running s)) [])
 
+-- set_ticks: the counter alone changes
 abbrev pub set-ticks : State → ℕ → Effect
 set-ticks s n = unless s [] (answer-due s ∷ []) (accepted (plain OK) (with-counter s n) [])
 
@@ -460,6 +290,7 @@ ticked kind s t d (Sending m n) =
     choose (leb d (s .counter)) (wake kind (with-counts (edit-mailbox (release kind s n) m (unqueue n)) (count-withdrawn (s .counts))) t Withdrawal) s
 ticked kind s t d (Asleep until) = wake kind s t (Tick (s .counter))
 
+-- the same by the number, where such a task lives
 abbrev pub tick-task : Kind → State → ℕ → Option Task → State
 tick-task kind s t None = s
 tick-task kind s t (Some x) = ticked kind s t (x .urgency .deadline) (x .activity)
@@ -493,6 +324,7 @@ collect-rows s buffer (Some (Plain st)) = []
 collect-rows s buffer (Some (Given n)) =
     row 11 KERNEL (running s) (ltb (length buffer) (length (bytes-in (s .held n)))) ∷ copy-rows (s .held) n buffer
 
+-- an accepted collect, by what is due
 abbrev pub collected : Kind → State → List ℕ → Option Due → Effect
 collected kind s buffer None = accepted (plain OK) s buffer
 collected kind s buffer (Some (Sent st n)) = accepted (naming st n) (settle s) buffer

@@ -1,8 +1,9 @@
--- The state of a kernel, by what the subject names: a counter, tasks, mailboxes, the ready list, the store's contents.
+-- Orders of urgency, the counts, and the state of a kernel by what the subject names.
+use mathlib.Core.Path.{_≡_}
 use mathlib.Core.List.{List, [], _∷_}
-use mathlib.Core.Bool.{Bool, cond}
+use mathlib.Core.Bool.{Bool, true, false, cond}
 use Prim.Native.Nat.{ℕ, _+_, _-_, min}
-use lib.Dec.{eqb}
+use lib.Dec.{eqb, ltb}
 use Rattle.std.specs.declared.option.Option.{Option}
 use Rattle.std.specs.declared.option.Option.the-variants.{Some, None}
 use Rattle.store.specs.Meaning.{Contents, nothing}
@@ -12,7 +13,31 @@ use Rattle.art.specs.declared.task.Message.{Message}
 use Rattle.art.specs.declared.task.Task.{Task}
 use Rattle.art.specs.declared.task.Urgency.{Urgency}
 
--- The five counts, before the first message and as each fate comes to one.
+-- Orders of urgency: what each keeps, and the two that there are.
+
+-- neither of two goes before the other
+pub record Level (before : Urgency → Urgency → Bool) (a b : Urgency) : Type 0 where
+  pub forth : before a b ≡ false
+  pub back : before b a ≡ false
+
+pub record OrderRules (before : Urgency → Urgency → Bool) : Type 0 where
+  -- none goes before itself
+  pub irreflexive : (a : Urgency) → before a a ≡ false
+  pub transitive : (a b c : Urgency) → before a b ≡ true → before b c ≡ true → before a c ≡ true
+  -- level with one another is transitive too
+  pub levels : (a b c : Urgency) → Level before a b → Level before b c → Level before a c
+
+-- the smaller deadline goes before
+abbrev pub by-deadline : Urgency → Urgency → Bool
+by-deadline a b = ltb (a .deadline) (b .deadline)
+
+-- the smaller level goes before
+abbrev pub by-level : Urgency → Urgency → Bool
+by-level a b = ltb (a .level) (b .level)
+
+-- The five counts.
+
+-- before the first message
 abbrev pub no-message : Counts
 no-message = record { accepted = 0; queued = 0; «handed_over» = 0; withdrawn = 0; displaced = 0 }
 
@@ -39,6 +64,8 @@ count-withdrawn c =
 abbrev pub count-displaced : Counts → Counts
 count-displaced c =
     record { accepted = c .accepted; queued = c .queued - 1; «handed_over» = c .«handed_over»; withdrawn = c .withdrawn; displaced = one-more (c .displaced) }
+
+-- The state.
 
 -- TOP, the largest 32-bit number
 abbrev pub top : ℕ

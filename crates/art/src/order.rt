@@ -1,7 +1,7 @@
 // Orders of urgency: which of two tasks goes before the other, by their deadlines and levels alone.
 ghost use mathlib.Core.Bool.{Bool};
 ghost use mathlib.Core.Path.{_≡_};
-ghost use Rattle.art.specs.Ordering.{OrderRules, by-deadline, by-level};
+ghost use Rattle.art.specs.State.{OrderRules, by-deadline, by-level};
 ghost use Rattle.art.specs.declared.task.Urgency.{Urgency as Urgencies};
 use crate::task::Urgency;
 

@@ -1,6 +1,6 @@
 -- Each edge, by computing its record.
 use mathlib.Core.Path.{refl}
-use Rattle.art.specs.Rules.{entered, choose}
+use Rattle.art.specs.Verbs.{entered, choose}
 use Rattle.art_examples.specs.Edges.{Edges}
 
 pub shown : Edges
