@@ -49,6 +49,14 @@ fn file<S: Store>(rt: &LibcRuntime, store: &mut S, order: SigningOrder) -> io::R
     }
 }
 
+// The text at the front of a buffer.
+fn text_of(buffer: &[u8], length: usize) -> &str {
+    match buffer.get(0..length) {
+        Some(bytes) => from_utf8(bytes).unwrap_or("not text"),
+        None => "longer than the buffer",
+    }
+}
+
 fn hand_out<S: Store>(
     rt: &LibcRuntime,
     store: &S,
@@ -57,10 +65,7 @@ fn hand_out<S: Store>(
 ) -> io::Result<()> {
     match store.copy(message, buffer) {
         Ok(length) => {
-            let text = match buffer.get(0..length) {
-                Some(bytes) => from_utf8(bytes).unwrap_or("not text"),
-                None => "longer than the buffer",
-            };
+            let text = text_of(buffer, length);
             println!(rt, "copy {message}: {length} bytes: {text}")
         }
         Err(fault) => println!(rt, "copy {message}: {fault}"),

@@ -1,0 +1,4 @@
+pub mod Packing
+pub mod Places
+pub mod Changing
+pub mod Opened
