@@ -290,7 +290,7 @@ ticked kind s t d (Sending m n) =
     choose (leb d (s .counter)) (wake kind (with-counts (edit-mailbox (release kind s n) m (unqueue n)) (count-withdrawn (s .counts))) t Withdrawal) s
 ticked kind s t d (Asleep until) = wake kind s t (Tick (s .counter))
 
--- the same by the number, where such a task lives
+-- the same where such a task lives
 abbrev pub tick-task : Kind → State → ℕ → Option Task → State
 tick-task kind s t None = s
 tick-task kind s t (Some x) = ticked kind s t (x .urgency .deadline) (x .activity)

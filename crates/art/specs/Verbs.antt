@@ -99,7 +99,7 @@ abbrev pub rouse : Kind → State → ℕ → Task → Option Due → State
 rouse kind s t x None = s
 rouse kind s t x (Some d) = enter kind (with-task s t (Some (record { urgency = x .urgency; activity = Ready; due = Some d }))) t
 
--- the same by the number, where such a task lives
+-- the same where such a task lives
 abbrev pub wake-task : Kind → State → ℕ → Event → Option Task → State
 wake-task kind s t e None = s
 wake-task kind s t e (Some x) = rouse kind s t x (due-after (x .urgency .deadline) (x .activity) e)
