@@ -161,6 +161,13 @@ arrive kind s m n (Some t) d None =
     accepted (naming BLOCKED n) (block (edit-mailbox s m (queue (record { number = n; sender = Some t }))) (Sending m n)) []
 arrive kind s m n None d None = accepted (displacing n d) (edit-mailbox s m (queue (record { number = n; sender = None }))) []
 
+-- the store's own rows: room for the bytes, with the units of a displaced message, which has to be held, free again
+abbrev pub store-rows : Kind → State → List ℕ → Option Message → List Row
+store-rows kind s bytes None = put-rows (kind .capacity) (kind .cost) (s .held) (s .used) (s .next) bytes
+store-rows kind s bytes (Some x) =
+    discard-rows (s .held) (x .number)
+    ++ put-rows (kind .capacity) (kind .cost) (s .held) (s .used - units-in (kind .cost) (s .held (x .number))) (s .next) bytes
+
 -- send_wait: mailbox, bytes
 abbrev pub send-wait-rows : Kind → State → ℕ → List ℕ → List Row
 send-wait-rows kind s m bytes =
@@ -172,7 +179,7 @@ send-wait-rows kind s m bytes =
     ∷ mixed s m true
     ∷ row 14 MAILBOX m (fills (mailbox-at s m) (mailbox-at s m .messages))
     ∷ numbers-spent s
-    ∷ put-rows (kind .capacity) (kind .cost) (s .held) (s .used) (s .next) bytes
+    ∷ store-rows kind s bytes None
 
 abbrev pub send-wait : Kind → State → ℕ → List ℕ → Effect
 send-wait kind s m bytes =
@@ -183,19 +190,12 @@ send-wait kind s m bytes =
 abbrev pub displaced-at : State → ℕ → Option Message
 displaced-at s m = cond (fills (mailbox-at s m) (mailbox-at s m .messages)) (oldest (mailbox-at s m .messages)) None
 
--- what its going asks of the store, the units that it frees, the state without it, and its number
-abbrev pub displace-rows : State → Option Message → List Row
-displace-rows s None = []
-displace-rows s (Some x) = discard-rows (s .held) (x .number)
-
-abbrev pub freed : Kind → State → Option Message → ℕ
-freed kind s None = 0
-freed kind s (Some x) = units-in (kind .cost) (s .held (x .number))
-
+-- the state without it
 abbrev pub displace : Kind → State → ℕ → Option Message → State
 displace kind s m None = s
 displace kind s m (Some x) = take-out kind s m x count-displaced
 
+-- its number
 abbrev pub number-in : Option Message → Option ℕ
 number-in None = None
 number-in (Some x) = Some (x .number)
@@ -209,8 +209,7 @@ send-no-wait-rows kind s m bytes =
     ∷ wrong-size s m bytes
     ∷ mixed s m false
     ∷ numbers-spent s
-    ∷ (displace-rows s (displaced-at s m)
-    ++ put-rows (kind .capacity) (kind .cost) (s .held) (s .used - freed kind s (displaced-at s m)) (s .next) bytes)
+    ∷ store-rows kind s bytes (displaced-at s m)
 
 abbrev pub send-no-wait : Kind → State → ℕ → List ℕ → Effect
 send-no-wait kind s m bytes =
