@@ -23,8 +23,8 @@ use Rattle.art.specs.declared.task.Due.the-variants.{Sent, Given, Plain}
 use Rattle.art.specs.declared.task.Event.the-variants.{HandOver, Withdrawal, Tick}
 use Rattle.art.specs.declared.task.Message.{Message}
 use Rattle.art.specs.declared.task.Task.{Task}
-use Rattle.art.specs.State.{Kind, Mailbox, State, top, last-task, running, with-counter, with-task, with-mailbox, with-ready, with-counts, count-handed-over, count-withdrawn, count-displaced}
-use Rattle.art.specs.Verbs.{due-of, with-deadline, removed, block, settle, enter, wake, mailbox-at, edit-mailbox, oldest, queue, unqueue, join-receivers, leave-oldest, leave-receivers, is-empty, fills, other-mode, accept, release, written, take-out, wake-sender, choose}
+use Rattle.art.specs.State.{Kind, Mailbox, State, top, last-task, running, with-counter, with-task, with-mailbox, with-ready, with-counts, count-handed-over, count-displaced}
+use Rattle.art.specs.Verbs.{due-of, with-deadline, removed, block, settle, enter, wake, mailbox-at, edit-mailbox, oldest, queue, join-receivers, leave-oldest, leave-receivers, is-empty, fills, other-mode, accept, release, written, take-out, withdraw, wake-sender, choose}
 
 -- what a line answers: a call's answer or refusal, a number, what a tick did, the counts, or nothing
 pub data Reply : Type 0 where
@@ -272,10 +272,13 @@ wait s n = unless s [] (wait-rows s n) (accepted (plain BLOCKED) (block s (Aslee
 abbrev pub set-deadline-rows : State → List Row
 set-deadline-rows s = answer-due s ∷ idle-calls s ∷ []
 
+-- the running task leaves the ready list, and enters it again with its new deadline
+abbrev pub after-set-deadline : Kind → State → ℕ → State
+after-set-deadline kind s d =
+    enter kind (with-ready (with-task s (running s) (with-deadline d (s .tasks (running s)))) (removed (running s) (s .ready))) (running s)
+
 abbrev pub set-deadline : Kind → State → ℕ → Effect
-set-deadline kind s d =
-    unless s [] (set-deadline-rows s)
-    (accepted (plain OK) (enter kind (with-ready (with-task s (running s) (with-deadline d (s .tasks (running s)))) (removed (running s) (s .ready))) (running s)) [])
+set-deadline kind s d = unless s [] (set-deadline-rows s) (accepted (plain OK) (after-set-deadline kind s d) [])
 
 -- set_ticks: the counter alone changes
 abbrev pub set-ticks : State → ℕ → Effect
@@ -286,7 +289,7 @@ abbrev pub ticked : Kind → State → ℕ → ℕ → Activity → State
 ticked kind s t d Ready = s
 ticked kind s t d (Receiving m) = choose (leb d (s .counter)) (wake kind (edit-mailbox s m (leave-receivers t)) t Withdrawal) s
 ticked kind s t d (Sending m n) =
-    choose (leb d (s .counter)) (wake kind (with-counts (edit-mailbox (release kind s n) m (unqueue n)) (count-withdrawn (s .counts))) t Withdrawal) s
+    choose (leb d (s .counter)) (wake kind (withdraw kind s m n) t Withdrawal) s
 ticked kind s t d (Asleep until) = wake kind s t (Tick (s .counter))
 
 -- the same where such a task lives

@@ -18,7 +18,7 @@ use Rattle.art.specs.declared.task.Event.{Event}
 use Rattle.art.specs.declared.task.Event.the-variants.{HandOver, Withdrawal, Tick}
 use Rattle.art.specs.declared.task.Message.{Message}
 use Rattle.art.specs.declared.task.Task.{Task}
-use Rattle.art.specs.State.{Kind, Mailbox, State, running, with-next, with-task, with-mailbox, with-ready, with-store, with-counts, count-accepted}
+use Rattle.art.specs.State.{Kind, Mailbox, State, running, with-next, with-task, with-mailbox, with-ready, with-store, with-counts, count-accepted, count-withdrawn}
 
 -- Tasks
 
@@ -184,10 +184,13 @@ other-mode waiting (Some x) = cond waiting (not (isSome (x .sender))) (isSome (x
 
 -- The store
 
--- the bytes are held under the next number, which is used up
+-- the next number is used up, by a message that is accepted
+abbrev pub use-number : State → State
+use-number s = with-counts (with-next s (s .next + 1)) (count-accepted (s .counts))
+
+-- the bytes are held under the next number
 abbrev pub accept : Kind → State → List ℕ → State
-accept kind s bytes =
-    with-counts (with-next (with-store s (with (s .held) (s .next) bytes) (s .used + kind .cost (length bytes))) (s .next + 1)) (count-accepted (s .counts))
+accept kind s bytes = use-number (with-store s (with (s .held) (s .next) bytes) (s .used + kind .cost (length bytes)))
 
 -- the bytes of message n leave the store
 abbrev pub release : Kind → State → ℕ → State
@@ -202,6 +205,10 @@ written s n buffer = bytes-in (s .held n) ++ drop (length (bytes-in (s .held n))
 -- the oldest message of a mailbox leaves it, and its bytes the store
 abbrev pub take-out : Kind → State → ℕ → Message → (Counts → Counts) → State
 take-out kind s m x count = with-counts (edit-mailbox (release kind s (x .number)) m unqueue-oldest) (count (s .counts))
+
+-- a message leaves the queue and the store, since its sender's deadline is reached
+abbrev pub withdraw : Kind → State → ℕ → ℕ → State
+withdraw kind s m n = with-counts (edit-mailbox (release kind s n) m (unqueue n)) (count-withdrawn (s .counts))
 
 -- the sender that waited with a message is told of its hand-over
 abbrev pub wake-sender : Kind → State → Message → Option ℕ → State

@@ -1,0 +1,11 @@
+// The engine of the kernel: its tables, and the verbs that the calls are made of, each as the rules have it.
+// Its functions may ask something of their callers; the kernel's calls, above it, ask nothing.
+mod due;
+mod messages;
+mod queries;
+mod ready;
+mod tables;
+mod time;
+
+pub use tables::Engine;
+pub use tables::Tables;
