@@ -36,3 +36,11 @@ module _ {A : Type 0} (x : A) where
       (λ (h : r .holds ≡ true). absurd (ok-not-err (Err (r .tells)) y (r .tells) (rw h at e) refl))
       (λ (h : r .holds ≡ false). rw h (accepted-by s buffer rows rest y (rw h at e)))
       (cases-bool (r .holds))
+
+  -- what an accepted call says of its first row, and of the others
+  pub passes : (r : Row) (rows : List Row) (y : A) → tried (r ∷ rows) x ≡ Ok y → (r .holds ≡ false) × (tried rows x ≡ Ok y)
+  passes r rows y e =
+      ⊎-elim
+      (λ (h : r .holds ≡ true). absurd (ok-not-err (Err (r .tells)) y (r .tells) (rw h at e) refl))
+      (λ (h : r .holds ≡ false). (h, rw h at e))
+      (cases-bool (r .holds))

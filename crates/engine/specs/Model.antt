@@ -10,8 +10,8 @@ use Rattle.art.specs.declared.task.Message.{Message}
 use Rattle.art.specs.State.{Kind, State}
 use Rattle.art.specs.Verbs.{accept, mailbox-at, oldest}
 use Rattle.art.specs.Rules.{Effect, Reply, arrive, displace, number-in, receive, store-rows, take-rows, unless}
-use Rattle.mailboxes.specs.Held.{mailboxes-in}
-use Rattle.roster.specs.Held.{ready-in, tasks-in}
+use Rattle.mailboxes.specs.Meaning.{mailboxes-in}
+use Rattle.roster.specs.View.{ready-in, tasks-in}
 use Rattle.engine.specs.declared.tables.Engine.{Engine}
 
 -- a store's capacity and costs, and an order

@@ -3,7 +3,7 @@ ghost use mathlib.Core.Bool.{true, false};
 ghost use mathlib.Core.Path.{_≡_};
 ghost use Rattle.std.specs.Options.{isSome};
 ghost use Rattle.art.specs.Verbs.{due-after, wakes};
-ghost use Rattle.roster.specs.Counting.{is-ready};
+ghost use Rattle.roster.specs.Places.{is-ready};
 use art::Activity;
 use art::Due;
 use art::Event;

@@ -2,15 +2,16 @@
 ghost use mathlib.Core.Bool.{true};
 ghost use mathlib.Core.List.{[]};
 ghost use mathlib.Core.Path.{_≡_};
-ghost use Prim.Native.Nat.{_<_, _≤_};
+ghost use Prim.Native.Nat.{_-_, _<_, _≤_};
 ghost use Rattle.std.specs.Options.{isSome};
 ghost use Rattle.std.specs.declared.option.Option.the-variants.{None, Some};
 ghost use Rattle.std.specs.declared.result.Result.the-variants.{Ok};
+ghost use Rattle.store.specs.Meaning.{units-in, without};
 ghost use Rattle.art.specs.Answers.{outcome};
-ghost use Rattle.art.specs.State.{count-displaced, running, top};
-ghost use Rattle.art.specs.Verbs.{mailbox-at, oldest, release, take-out, use-number, wake-sender};
+ghost use Rattle.art.specs.State.{running, top};
+ghost use Rattle.art.specs.Verbs.{mailbox-at, oldest, wake-sender};
 ghost use Rattle.art.specs.Rules.{Answered, arrive, bringing};
-ghost use Rattle.mailboxes.specs.Held.{room-for-message};
+ghost use Rattle.mailboxes.specs.Meaning.{room-for-message};
 ghost use Rattle.engine.specs.Model.{Gives, kind-of, posted, taken, view};
 use crate::tables::Engine;
 use art::Activity;
@@ -49,14 +50,15 @@ pub(crate) fn brought(message: u32, length: usize) -> Answer
     }
 }
 
-impl<S: Store, O: Order> Engine<S, O> {
-    // The bytes of a message leave the store.
-    pub fn release(&mut self, message: u32)
-        ensures { λ _. ⌜ view S·Store (now (self .exit)) ≡ release (kind-of S·Store O·Order) (view S·Store (now (self .entry))) message ⌝ }
-    {
-        let _ = self.store.discard(message);
-    }
+// The bytes of a message leave the store.
+pub(crate) fn release<S: Store>(store: &mut S, message: u32)
+    ensures holds { λ _. ⌜ S·Store .held (now (store .exit)) ≡ without (S·Store .held (now (store .entry))) message ⌝ }
+    ensures counts { λ _. ⌜ S·Store .used (now (store .exit)) ≡ S·Store .used (now (store .entry)) - units-in (S·Store .cost) (S·Store .held (now (store .entry)) message) ⌝ }
+{
+    let _ = store.discard(message);
+}
 
+impl<S: Store, O: Order> Engine<S, O> {
     // An accepted message goes to the oldest receiver, or to the end of the queue, where its sender may wait.
     fn arrive(
         &mut self,
@@ -89,15 +91,6 @@ impl<S: Store, O: Order> Engine<S, O> {
         }
     }
 
-    // The next number is used up, and its message counted.
-    fn count_accepted(&mut self)
-        requires { ⌜ view S·Store (now self) .next ≤ top ⌝ }
-        ensures { λ _. ⌜ view S·Store (now (self .exit)) ≡ use-number (view S·Store (now (self .entry))) ⌝ }
-    {
-        self.tables.next += 1;
-        self.tables.counts.accept();
-    }
-
     // The store takes the bytes under the next number, and the message arrives.
     pub fn post(
         &mut self,
@@ -113,19 +106,9 @@ impl<S: Store, O: Order> Engine<S, O> {
     {
         let message = self.tables.next as u32;
         self.store.put(message, bytes)?;
-        self.count_accepted();
+        self.tables.next += 1;
+        self.tables.counts.accept();
         Ok(self.arrive(mailbox, message, sender, None))
-    }
-
-    // The oldest message of a mailbox leaves it, displaced.
-    fn displace(&mut self, mailbox: MailboxNumber, message: Message)
-        requires { ⌜ mailbox < 32 ⌝ }
-        ensures state { λ _. ⌜ view S·Store (now (self .exit)) ≡ take-out (kind-of S·Store O·Order) (view S·Store (now (self .entry))) mailbox message count-displaced ⌝ }
-        ensures room { λ _. ⌜ (isSome (view S·Store (now (self .entry)) .mailboxes mailbox) ≡ true → room-for-message (view S·Store (now (self .exit)) .mailboxes mailbox)) ⌝ }
-    {
-        self.tables.mailboxes.unqueue_oldest(mailbox);
-        self.tables.counts.displace();
-        self.release(message.number);
     }
 
     // The same as post at a mailbox that is full, whose oldest message makes room. Nothing changes before
@@ -143,9 +126,12 @@ impl<S: Store, O: Order> Engine<S, O> {
     {
         let message = self.tables.next as u32;
         self.could_displace(oldest, bytes)?;
-        self.displace(mailbox, oldest);
+        self.tables.mailboxes.unqueue_oldest(mailbox);
+        self.tables.counts.displace();
+        release(&mut self.store, oldest.number);
         let _ = self.store.put(message, bytes);
-        self.count_accepted();
+        self.tables.next += 1;
+        self.tables.counts.accept();
         Ok(self.arrive(mailbox, message, None, Some(oldest.number)))
     }
 
@@ -171,7 +157,7 @@ impl<S: Store, O: Order> Engine<S, O> {
         let length = self.store.copy(message.number, buffer)?;
         self.tables.mailboxes.unqueue_oldest(mailbox);
         self.tables.counts.hand_over();
-        self.release(message.number);
+        release(&mut self.store, message.number);
         self.wake_sender(message);
         Ok(brought(message.number, length))
     }

@@ -9,7 +9,7 @@ ghost use Rattle.std.specs.declared.option.Option.the-variants.{Some};
 ghost use Rattle.art.specs.State.{running, with-task};
 ghost use Rattle.art.specs.Verbs.{block, due-of, enter, entered, urgent, wake, with-deadline, removed, settle};
 ghost use Rattle.art.specs.Rules.{after-set-deadline};
-ghost use Rattle.roster.specs.Counting.{is-ready, counts};
+ghost use Rattle.roster.specs.Places.{is-ready, stands-ready};
 ghost use Rattle.engine.specs.Model.{kind-of, view};
 use crate::due::due_after;
 use crate::tables::Engine;
@@ -54,7 +54,7 @@ impl<S: Store, O: Order> Engine<S, O> {
     // A task that is not ready becomes the ready task x, and enters the ready list.
     pub fn admit(&mut self, t: TaskNumber, x: Task)
         requires number { ⌜ t < 64 ⌝ }
-        requires before { ⌜ counts (view S·Store (now self) .tasks t) ≡ false ⌝ }
+        requires before { ⌜ stands-ready (view S·Store (now self) .tasks t) ≡ false ⌝ }
         requires after { ⌜ is-ready (x .activity) ≡ true ⌝ }
         ensures { λ _. ⌜ view S·Store (now (self .exit)) ≡ enter (kind-of S·Store O·Order) (with-task (view S·Store (now (self .entry))) t (Some x)) t ⌝ }
     {

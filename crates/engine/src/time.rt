@@ -5,6 +5,7 @@ ghost use Rattle.art.specs.Verbs.{edit-mailbox, leave-receivers, wake, withdraw
 ghost use Rattle.art.specs.Rules.{Ticked, tick, tick-task};
 ghost use Rattle.art.specs.declared.task.Event.the-variants.{Withdrawal};
 ghost use Rattle.engine.specs.Model.{Gives, kind-of, view};
+use crate::messages::release;
 use crate::tables::Engine;
 use art::Activity;
 use art::Event;
@@ -28,7 +29,7 @@ impl<S: Store, O: Order> Engine<S, O> {
     {
         self.tables.mailboxes.unqueue(mailbox, message);
         self.tables.counts.withdraw();
-        self.release(message);
+        release(&mut self.store, message);
         self.wake(t, Event::Withdrawal);
     }
 
@@ -42,12 +43,18 @@ impl<S: Store, O: Order> Engine<S, O> {
         let counter = self.tables.counter;
         let reached = task.urgency.deadline <= counter;
         match task.activity {
-            Activity::Receiving { mailbox } if reached => self.withdraw_receiver(t, mailbox),
-            Activity::Sending { mailbox, message } if reached => {
-                self.withdraw_message(t, mailbox, message)
+            Activity::Ready => {}
+            Activity::Receiving { mailbox } => {
+                if reached {
+                    self.withdraw_receiver(t, mailbox);
+                }
+            }
+            Activity::Sending { mailbox, message } => {
+                if reached {
+                    self.withdraw_message(t, mailbox, message);
+                }
             }
             Activity::Asleep { .. } => self.wake(t, Event::Tick { counter }),
-            _ => {}
         }
     }
 

@@ -1,0 +1,3 @@
+mod Entering
+mod Displacing
+mod Ticking
