@@ -6,10 +6,11 @@ use Rattle.std.specs.declared.option.Option.{Option}
 use Rattle.std.specs.declared.option.Option.the-variants.{Some}
 use Rattle.store.specs.declared.Store.{Ghosts as Stores}
 use Rattle.art.specs.declared.order.Order.{Ghosts as Orders}
+use Rattle.art.specs.declared.task.Due.the-variants.{Given}
 use Rattle.art.specs.declared.task.Message.{Message}
 use Rattle.art.specs.State.{Kind, State}
 use Rattle.art.specs.Verbs.{accept, mailbox-at, oldest}
-use Rattle.art.specs.Rules.{Effect, Reply, arrive, displace, number-in, receive, store-rows, take-rows, unless}
+use Rattle.art.specs.Rules.{Effect, Reply, arrive, collect-rows, collected, displace, number-in, receive, store-rows, take-rows, unless}
 use Rattle.mailboxes.specs.Meaning.{mailboxes-in}
 use Rattle.roster.specs.View.{ready-in, tasks-in}
 use Rattle.engine.specs.declared.tables.Engine.{Engine}
@@ -46,3 +47,7 @@ posted kind s m bytes sender x =
 -- a receive that finds a message
 abbrev pub taken : Kind → State → ℕ → List ℕ → Message → Effect
 taken kind s m buffer x = unless s buffer (take-rows s buffer (Some x)) (receive kind s m buffer (Some x))
+
+-- a collect that brings a message
+abbrev pub fetched : Kind → State → List ℕ → ℕ → Effect
+fetched kind s buffer n = unless s buffer (collect-rows s buffer (Some (Given n))) (collected kind s buffer (Some (Given n)))

@@ -12,7 +12,7 @@ ghost use Rattle.art.specs.State.{running, top};
 ghost use Rattle.art.specs.Verbs.{mailbox-at, oldest, wake-sender};
 ghost use Rattle.art.specs.Rules.{Answered, arrive, bringing};
 ghost use Rattle.mailboxes.specs.Meaning.{room-for-message};
-ghost use Rattle.engine.specs.Model.{Gives, kind-of, posted, taken, view};
+ghost use Rattle.engine.specs.Model.{Gives, fetched, kind-of, posted, taken, view};
 use crate::tables::Engine;
 use art::Activity;
 use art::Answer;
@@ -25,6 +25,7 @@ use art::RefusalFromStore;
 use art::Status;
 use art::TaskNumber;
 use store::Store;
+use store::StoreFault;
 
 // The answer of a send.
 fn sent(status: Status, message: u32, displaced: Option<u32>) -> Answer
@@ -160,5 +161,22 @@ impl<S: Store, O: Order> Engine<S, O> {
         release(&mut self.store, message.number);
         self.wake_sender(message);
         Ok(brought(message.number, length))
+    }
+
+    // The message that the running task was given comes into its buffer, and its bytes leave the store.
+    pub fn fetch(&mut self, message: u32, buffer: &mut [u8]) -> Result<Answer, Refusal>
+        ensures { λ r. ⌜ Gives (fetched (kind-of S·Store O·Order) (view S·Store (now (self .entry))) (now (buffer .entry)) message) (Answered (outcome r)) (now (buffer .exit)) (view S·Store (now (self .exit))) ⌝ }
+    {
+        match self.store.copy(message, buffer) {
+            Ok(length) => {
+                release(&mut self.store, message);
+                self.tables.roster.settle();
+                Ok(brought(message, length))
+            }
+            Err(StoreFault::Cramped { .. }) => Err(Refusal::ShortCollect {
+                task: self.running(),
+            }),
+            Err(fault) => Err(Refusal::from(fault)),
+        }
     }
 }

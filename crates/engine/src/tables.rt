@@ -5,6 +5,7 @@ use mailboxes::Mailboxes;
 use roster::Roster;
 use store::Store;
 
+#[derive(Drop)]
 pub struct Tables {
     pub counter: u32,
     // The number of the next message; above the largest 32-bit number once that has been used.
@@ -14,6 +15,7 @@ pub struct Tables {
     pub counts: Counts,
 }
 
+#[derive(Drop)]
 pub struct Engine<S: Store, O: Order> {
     pub store: S,
     pub order: O,

@@ -26,6 +26,7 @@ pub struct Mailbox {
     ghost bounded: { capacity ≤ 16 },
 }
 
+#[derive(Drop)]
 pub struct Mailboxes {
     rows: [Mailbox; ROWS],
 }

@@ -1,29 +1,27 @@
--- How the count of ready tasks goes with a write to their table, and the first of the ready list.
-use mathlib.Core.Path.{_≡_, refl, sym, ap, _∙_}
+-- How the count of ready tasks goes with a write to their table, and the length of a list with an insertion.
+use mathlib.Core.Path.{_≡_, ap, _∙_}
 use mathlib.Core.List.{List, [], _∷_}
 use mathlib.Core.Bool.{Bool, true, false, cond}
 use Prim.Native.Nat.{ℕ, zero, suc, _+_, _≤_, _<_}
 use native.Mathlib.Omega.{arith}
-use lib.Dec.{eqb}
 use lib.ListN.{length, getD, set}
-use Rattle.std.specs.Holes as holes
+use Rattle.std.specs.Holes.{inserted}
 use Rattle.std.specs.declared.option.Option.{Option}
-use Rattle.std.specs.declared.option.Option.the-variants.{Some, None}
+use Rattle.std.specs.declared.option.Option.the-variants.{None}
 use Rattle.std.proofs.shelf.Edits.{length-inserted}
-use Rattle.std.proofs.shelf.Tests.{eq-eqb, cond-true}
 use Rattle.art.specs.declared.task.Task.{Task}
-use Rattle.art.specs.State.{first}
-use Rattle.art.specs.Verbs.{removed}
 use Rattle.roster.specs.Places.{stands-ready, ready-count}
 
 -- what a place adds to the count
 abbrev weight : Bool → ℕ
 weight b = cond b 1 0
 
+-- at most one
 weight-le : (b : Bool) → weight b ≤ 1
 weight-le true = omega arith
 weight-le false = omega arith
 
+-- with the new task's weight in the place of the old one's
 count-set : (xs : List (Option Task)) (t : ℕ) (v : Option Task) → t < length xs →
     ready-count (set xs t v) + weight (stands-ready (getD xs t None)) ≡ ready-count xs + weight (stands-ready v)
 count-set [] t v h = absurd (omega arith)
@@ -53,10 +51,5 @@ module _ (xs ys : List (Option Task)) (t : ℕ) (v : Option Task) (h : t < lengt
   count-less = omega (arith, count-written, weight-le (stands-ready (getD xs t None)))
 
 -- a list with one number more
-pub longer : (xs ys : List ℕ) (i t : ℕ) → i ≤ length xs → ys ≡ holes.inserted xs i t → length ys ≡ length xs + 1
+pub longer : (xs ys : List ℕ) (i t : ℕ) → i ≤ length xs → ys ≡ inserted xs i t → length ys ≡ length xs + 1
 longer xs ys i t h e = ap length e ∙ length-inserted xs i t h
-
--- the running task stands at the first place
-pub first-at : (xs : List ℕ) → getD xs 0 0 ≡ first xs
-first-at [] = refl
-first-at (x ∷ xs) = refl

@@ -16,6 +16,7 @@ mod views;
 // A place for each task number.
 const PLACES: usize = LAST_TASK as usize + 1;
 
+#[derive(Drop)]
 pub struct Roster {
     tasks: [Option<Task>; PLACES],
     // The running task first.

@@ -8,7 +8,7 @@ ghost use Rattle.std.specs.declared.option.Option.the-variants.{None, Some};
 ghost use Rattle.std.specs.Holes.{inserted};
 ghost use Rattle.art.specs.State.{changed, first, idle-task};
 ghost use Rattle.art.specs.Verbs.{doing, removed, settled, with-deadline};
-ghost use Rattle.roster.specs.Places.{is-ready, ready-count, stands-ready};
+ghost use Rattle.roster.specs.Places.{is-ready, stands-ready};
 ghost use Rattle.roster.specs.View.{Has-room, ready-in, tasks-in};
 use crate::PLACES;
 use crate::Roster;

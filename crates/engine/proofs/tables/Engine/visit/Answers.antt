@@ -17,4 +17,3 @@ returns-then-reached-2 g c = search needs
 pub returns-else-reached-2 : need.returns-else-reached-2
 unfolding choose
 returns-else-reached-2 g c = search needs
-
