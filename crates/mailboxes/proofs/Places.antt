@@ -21,10 +21,11 @@ oldest-at (y ∷ ys) x h e = ap Some (e y)
 module _ {A : Type 0} (pass : A → Bool) (without : List A → List A) (none : without [] ≡ []) (step : (x : A) (xs : List A) → without (x ∷ xs) ≡ cond (pass x) xs (x ∷ without xs)) (xs : List A) (i : ℕ) (so-far : take i xs ++ without (drop i xs) ≡ without xs) where
   -- x stands at i
   module _ (x : A) (h : i < length xs) (here : (d : A) → x ≡ getD xs i d) where
+    -- what is left from i on
     rest : without (drop i xs) ≡ cond (pass x) (drop (i + 1) xs) (x ∷ without (drop (i + 1) xs))
     rest = ap without (drop-more xs i x h ∙ ap (λ y. y ∷ drop (i + 1) xs) (sym (here x))) ∙ step x (drop (i + 1) xs)
 
-    -- it does not pass either
+    -- where it does not pass, the walk goes on
     pub place-further : pass x ≡ false → take (i + 1) xs ++ without (drop (i + 1) xs) ≡ without xs
     place-further p =
         ap (λ l. l ++ without (drop (i + 1) xs)) (take-more xs i x h ∙ ap (λ y. take i xs ++ (y ∷ [])) (sym (here x)))
@@ -32,14 +33,14 @@ module _ {A : Type 0} (pass : A → Bool) (without : List A → List A) (none : 
         ∙ ap (λ l. take i xs ++ l) (sym (rest ∙ cond-false (pass x) _ _ p))
         ∙ so-far
 
-    -- it passes
+    -- where it passes, the walk ends there
     pub place-found : pass x ≡ true → without xs ≡ gap.removed xs i
     place-found p =
         sym so-far
         ∙ ap (λ l. take i xs ++ l) (rest ∙ cond-true (pass x) _ _ p)
         ∙ ap (λ k. take i xs ++ drop k xs) (add-one i)
 
-  -- i is the end
+  -- at the end none has passed
   pub place-none : length xs ≤ i → without xs ≡ xs
   place-none h =
       sym so-far

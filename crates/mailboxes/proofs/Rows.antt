@@ -32,6 +32,7 @@ unused-at zero i row e = refl
 unused-at (suc n) zero row e = e
 unused-at (suc n) (suc i) row e = unused-at n i row e
 
+-- so a table of them has none
 pub all-unused : (row : Row) → mailbox-of row ≡ None → in-rows (replicate 32 row) ≡ (λ _. None)
 all-unused row e = fun-ext (λ i. unused-at 32 i row e)
 
@@ -40,7 +41,7 @@ edited-row : (f : Mailbox → Mailbox) (u u′ : Bool) (x x′ : Mailbox) → u�
 edited-row f true u′ x x′ p q = ap₂ (λ v y. cond v (Some y) None) p q
 edited-row f false u′ x x′ p q = ap (λ v. cond v (Some x′) None) p
 
--- what holds of no unused row
+-- a row of which a fact holds that does not hold of nothing is in use
 in-use : (P : Option Mailbox → Type 0) → (P None → ⊥) → (u : Bool) (x : Mailbox) → P (cond u (Some x) None) → u ≡ true
 in-use P not-none true x p = refl
 in-use P not-none false x p = absurd (not-none p)
@@ -60,7 +61,7 @@ row-set rows i row full h =
 
 -- the row that stands at i
 module _ (rows : List Row) (i : ℕ) (d : Row) (full : length rows ≡ 32) (h : i < 32) where
-  -- a fact of mailboxes in use alone is one of the row's
+  -- a fact that does not hold of nothing, as that there is room, holds of the row that stands at i
   pub row-room : (P : Option Mailbox → Type 0) → (P None → ⊥) → P (in-rows rows i) → P (Some (meaning (getD rows i d)))
   row-room P not-none p =
       let q : P (mailbox-of (getD rows i d)) = subst P (row-at rows i d full h) p in
@@ -68,6 +69,7 @@ module _ (rows : List Row) (i : ℕ) (d : Row) (full : length rows ≡ 32) (h : 
 
   -- the row changes
   module _ (f : Mailbox → Mailbox) (row : Row) (e : Edited f (getD rows i d) row) where
+    -- so does the mailbox of its number
     pub row-edit : in-rows (set rows i row) ≡ edited-at f (in-rows rows) i
     row-edit =
         row-set rows i row full h
@@ -75,7 +77,7 @@ module _ (rows : List Row) (i : ℕ) (d : Row) (full : length rows ≡ 32) (h : 
         (edited-row f (getD rows i d .«in_use») (row .«in_use») (meaning (getD rows i d)) (meaning row) (e .flag) (e .value)
         ∙ ap (edited f) (sym (row-at rows i d full h)))
 
-    -- where it is in use and has room after it
+    -- and a mailbox in use has room where the row has
     pub room-after : room-for-message (Some (meaning row)) → isSome (in-rows rows i) ≡ true → room-for-message (in-rows (set rows i row) i)
     room-after r s =
         let P : Option Mailbox → Type 0 = λ b. isSome b ≡ true in

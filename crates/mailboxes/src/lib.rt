@@ -9,10 +9,10 @@ use fixed::FixedList;
 mod row;
 mod table;
 
-// How many messages, and how many receivers, a mailbox has room for at most.
+// The places of a queue, and of a list of receivers: the most entries that a mailbox may have room for.
 const PLACES: usize = MOST_ENTRIES as usize;
 
-// How many mailboxes there are at most.
+// The rows of the table: one for each mailbox number.
 const ROWS: usize = LAST_MAILBOX as usize + 1;
 
 // One row: a mailbox with its queued messages and its waiting receivers, oldest first.
@@ -26,6 +26,7 @@ pub struct Mailbox {
     ghost bounded: { capacity ≤ 16 },
 }
 
+// A row for each number.
 #[derive(Drop)]
 pub struct Mailboxes {
     rows: [Mailbox; ROWS],

@@ -95,7 +95,7 @@ impl Mailbox {
         self.messages.len() == 0 && self.receivers.len() == 0
     }
 
-    // Where message n stands in the queue.
+    // Where message n first stands in the queue, if it does.
     fn message_place(&self, n: u32) -> Option<usize>
         ensures { λ r. ⌜ Gap (items (now (self .entry) .messages)) (unqueued n (items (now (self .entry) .messages))) r ⌝ }
     {
@@ -107,7 +107,7 @@ impl Mailbox {
         None
     }
 
-    // Where task t stands among the receivers.
+    // Where task t first stands among the receivers, if it does.
     fn receiver_place(&self, t: TaskNumber) -> Option<usize>
         ensures { λ r. ⌜ Gap (items (now (self .entry) .receivers)) (removed t (items (now (self .entry) .receivers))) r ⌝ }
     {
@@ -127,7 +127,7 @@ impl Mailbox {
         self.messages.push(x);
     }
 
-    // The oldest message leaves the queue.
+    // The oldest message leaves the queue, if there is one.
     pub(crate) fn unqueue_oldest(&mut self)
         ensures change { λ _. ⌜ Edited unqueue-oldest (now (self .entry)) (now (self .exit)) ⌝ }
         ensures room { λ _. ⌜ room-for-message (Some (meaning (now (self .exit)))) ⌝ }
@@ -137,7 +137,7 @@ impl Mailbox {
         }
     }
 
-    // Message n leaves the queue.
+    // Message n leaves the queue, if it is there.
     pub(crate) fn unqueue(&mut self, n: u32)
         ensures { λ _. ⌜ Edited (unqueue n) (now (self .entry)) (now (self .exit)) ⌝ }
     {
@@ -154,7 +154,7 @@ impl Mailbox {
         self.receivers.push(t);
     }
 
-    // The receiver that has waited longest leaves.
+    // The receiver that has waited longest leaves, if there is one.
     pub(crate) fn leave_oldest(&mut self)
         ensures { λ _. ⌜ Edited leave-oldest (now (self .entry)) (now (self .exit)) ⌝ }
     {
@@ -163,7 +163,7 @@ impl Mailbox {
         }
     }
 
-    // Task t leaves the receivers.
+    // Task t leaves the receivers, if it is there.
     pub(crate) fn leave_receivers(&mut self, t: TaskNumber)
         ensures { λ _. ⌜ Edited (leave-receivers t) (now (self .entry)) (now (self .exit)) ⌝ }
     {

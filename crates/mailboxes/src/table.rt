@@ -50,7 +50,7 @@ impl Mailboxes {
         }
     }
 
-    // The receiver that has waited longest at a mailbox.
+    // The receiver that has waited longest at a mailbox, if there is one.
     pub fn oldest_receiver(&self, m: MailboxNumber) -> Option<TaskNumber>
         ensures { λ r. ⌜ r ≡ oldest (mailbox-in (mailboxes-in (now (self .entry)) m) .receivers) ⌝ }
     {
@@ -68,7 +68,7 @@ impl Mailboxes {
         self.rows[m as usize] = row;
     }
 
-    // A mailbox opens, empty.
+    // A mailbox opens, with no message and no receiver.
     pub fn open(&mut self, m: MailboxNumber, capacity: u8, size: u8)
         requires number { ⌜ m < 32 ⌝ }
         requires bounded { ⌜ capacity ≤ 16 ⌝ }
@@ -77,7 +77,7 @@ impl Mailboxes {
         self.replace(m, Mailbox::empty(true, capacity, size));
     }
 
-    // A mailbox is no more.
+    // A mailbox closes: its number is not in use any more.
     pub fn close(&mut self, m: MailboxNumber)
         requires { ⌜ m < 32 ⌝ }
         ensures { λ _. ⌜ mailboxes-in (now (self .exit)) ≡ changed (mailboxes-in (now (self .entry))) m None ⌝ }
@@ -94,7 +94,7 @@ impl Mailboxes {
         self.rows[m as usize].queue(x);
     }
 
-    // The oldest message leaves the queue.
+    // The oldest message leaves a mailbox's queue, if there is one; then the queue has a free place.
     pub fn unqueue_oldest(&mut self, m: MailboxNumber)
         ensures change { λ _. ⌜ mailboxes-in (now (self .exit)) ≡ edited-at unqueue-oldest (mailboxes-in (now (self .entry))) m ⌝ }
         ensures room { λ _. ⌜ (isSome (mailboxes-in (now (self .entry)) m) ≡ true → room-for-message (mailboxes-in (now (self .exit)) m)) ⌝ }
@@ -104,7 +104,7 @@ impl Mailboxes {
         }
     }
 
-    // Message n leaves the queue.
+    // Message n leaves a mailbox's queue, if it is there.
     pub fn unqueue(&mut self, m: MailboxNumber, n: u32)
         ensures { λ _. ⌜ mailboxes-in (now (self .exit)) ≡ edited-at (unqueue n) (mailboxes-in (now (self .entry))) m ⌝ }
     {
@@ -122,7 +122,7 @@ impl Mailboxes {
         self.rows[m as usize].join_receivers(t);
     }
 
-    // The receiver that has waited longest leaves.
+    // The receiver that has waited longest leaves a mailbox, if there is one.
     pub fn leave_oldest(&mut self, m: MailboxNumber)
         ensures { λ _. ⌜ mailboxes-in (now (self .exit)) ≡ edited-at leave-oldest (mailboxes-in (now (self .entry))) m ⌝ }
     {
@@ -131,7 +131,7 @@ impl Mailboxes {
         }
     }
 
-    // Task t leaves the receivers.
+    // Task t leaves a mailbox's receivers, if it is there.
     pub fn leave_receivers(&mut self, m: MailboxNumber, t: TaskNumber)
         ensures { λ _. ⌜ mailboxes-in (now (self .exit)) ≡ edited-at (leave-receivers t) (mailboxes-in (now (self .entry))) m ⌝ }
     {
