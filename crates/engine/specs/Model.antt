@@ -11,6 +11,7 @@ use Rattle.art.specs.declared.task.Message.{Message}
 use Rattle.art.specs.State.{Kind, State}
 use Rattle.art.specs.Verbs.{accept, mailbox-at, oldest}
 use Rattle.art.specs.Rules.{Effect, Reply, arrive, collect-rows, collected, displace, number-in, receive, store-rows, take-rows, unless}
+use Rattle.art.specs.Record.{Line, effect}
 use Rattle.mailboxes.specs.Meaning.{mailboxes-in}
 use Rattle.roster.specs.View.{ready-in, tasks-in}
 use Rattle.engine.specs.declared.tables.Engine.{Engine}
@@ -51,3 +52,7 @@ taken kind s m buffer x = unless s buffer (take-rows s buffer (Some x)) (receive
 -- a collect that brings a message
 abbrev pub fetched : Kind → State → List ℕ → ℕ → Effect
 fetched kind s buffer n = unless s buffer (collect-rows s buffer (Some (Given n))) (collected kind s buffer (Some (Given n)))
+
+-- an engine does a line of a record: reply, buffer and state after are those that the rules have for it at the state before
+abbrev pub Does : {S O : Type 0} → Stores S → Orders O → Line → Engine S O → Reply → List ℕ → Engine S O → Type 0
+Does store order line before reply buffer after = Gives (effect (kind-of store order) (view store before) line) reply buffer (view store after)

@@ -10,9 +10,11 @@ ghost use Rattle.store.specs.Meaning.{units-in, without};
 ghost use Rattle.art.specs.Answers.{outcome};
 ghost use Rattle.art.specs.State.{running, top};
 ghost use Rattle.art.specs.Verbs.{mailbox-at, oldest, wake-sender};
-ghost use Rattle.art.specs.Rules.{Answered, arrive, bringing};
+ghost use Rattle.art.specs.Rules.{Answered, arrive};
 ghost use Rattle.mailboxes.specs.Meaning.{room-for-message};
 ghost use Rattle.engine.specs.Model.{Gives, fetched, kind-of, posted, taken, view};
+use crate::answers::brought;
+use crate::answers::sent;
 use crate::tables::Engine;
 use art::Activity;
 use art::Answer;
@@ -26,30 +28,6 @@ use art::Status;
 use art::TaskNumber;
 use store::Store;
 use store::StoreFault;
-
-// The answer of a send.
-fn sent(status: Status, message: u32, displaced: Option<u32>) -> Answer
-    ensures { λ r. ⌜ r ≡ record { status = status; message = Some message; length = None; displaced = displaced } ⌝ }
-{
-    Answer {
-        status,
-        message: Some(message),
-        length: None,
-        displaced,
-    }
-}
-
-// The answer of a receive or a collect that brings a message.
-pub(crate) fn brought(message: u32, length: usize) -> Answer
-    ensures { λ r. ⌜ r ≡ bringing message length ⌝ }
-{
-    Answer {
-        status: Status::Ok,
-        message: Some(message),
-        length: Some(length),
-        displaced: None,
-    }
-}
 
 // The bytes of a message leave the store.
 pub(crate) fn release<S: Store>(store: &mut S, message: u32)

@@ -8,8 +8,7 @@ use Rattle.art.specs.State.{State}
 use Rattle.art.specs.Rules.{Reply}
 use Rattle.art.specs.Record.{Line, effect}
 use Rattle.engine.specs.declared.tables.Engine.{Engine}
-use Rattle.engine.specs.Model.{kind-of}
-use Rattle.calls.specs.Lines.{Does}
+use Rattle.engine.specs.Model.{Does, kind-of}
 use Rattle.kernel.specs.Takes.{Takes}
 
 pub takes : {S O : Type 0} (store : Stores S) (order : Orders O) (line : Line) (before : Engine S O) (reply : Reply) (buffer : List ℕ) (after : Engine S O) → Does store order line before reply buffer after → Takes store order line before reply buffer after

@@ -7,8 +7,7 @@ use Rattle.art.specs.declared.order.Order.{Ghosts as Orders}
 use Rattle.art.specs.Rules.{Reply}
 use Rattle.art.specs.Record.{Line, Record, state}
 use Rattle.engine.specs.declared.tables.Engine.{Engine}
-use Rattle.engine.specs.Model.{kind-of, view}
-use Rattle.calls.specs.Lines.{Does}
+use Rattle.engine.specs.Model.{Does, kind-of, view}
 
 pub record Takes {S O : Type 0} (store : Stores S) (order : Orders O) (line : Line) (before : Engine S O) (reply : Reply) (buffer : List ℕ) (after : Engine S O) : Type 0 where
   -- reply, buffer and state after are those of the rules

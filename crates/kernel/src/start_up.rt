@@ -18,7 +18,7 @@ pub fn init_kernel<S: Store, O: Order>(store: S, order: O, first: u32) -> StartU
     ensures { λ r. ⌜ Begins S·Store O·Order first (r .engine) ⌝ }
 {
     StartUp {
-        engine: calls::init(store, order, first),
+        engine: task_calls::init(store, order, first),
     }
 }
 
@@ -32,7 +32,7 @@ impl<S: Store, O: Order> StartUp<S, O> {
     ) -> Result<Answer, Refusal>
         ensures { λ r. ⌜ Takes S·Store O·Order (CreateTask number deadline level) (now (self .entry) .engine) (Answered (outcome r)) [] (now (self .exit) .engine) ⌝ }
     {
-        calls::create_task(&mut self.engine, number, deadline, level)
+        task_calls::create_task(&mut self.engine, number, deadline, level)
     }
 
     // Makes an empty mailbox.
@@ -44,7 +44,7 @@ impl<S: Store, O: Order> StartUp<S, O> {
     ) -> Result<Answer, Refusal>
         ensures { λ r. ⌜ Takes S·Store O·Order (CreateMailbox number capacity size) (now (self .entry) .engine) (Answered (outcome r)) [] (now (self .exit) .engine) ⌝ }
     {
-        calls::create_mailbox(&mut self.engine, number, capacity, size)
+        task_calls::create_mailbox(&mut self.engine, number, capacity, size)
     }
 
     // Sets the counter to 0 and gives the running kernel.
@@ -52,7 +52,7 @@ impl<S: Store, O: Order> StartUp<S, O> {
         ensures { λ r. ⌜ Takes S·Store O·Order Run (self .engine) Silent [] (r .engine) ⌝ }
     {
         let StartUp { mut engine } = self;
-        calls::run(&mut engine);
+        task_calls::run(&mut engine);
         Kernel { engine }
     }
 }

@@ -2,8 +2,8 @@ use borrow.Author.Needs.{needs}
 use Rattle.std.specs.declared.option.Option.the-variants.{Some, None}
 use Rattle.mailboxes.specs.Meaning.{meaning}
 use Rattle.engine.specs.Model.{kind-of, view}
-use Rattle.calls.proofs.Sending.{post-gives, to-post}
-use Rattle.calls.proofs.sends.send_no_wait.Needs as need
+use Rattle.message_calls.proofs.Sending.{post-gives, to-post}
+use Rattle.message_calls.proofs.sends.send_no_wait.Needs as need
 
 pub returns-then-not-full : need.returns-then-not-full
 returns-then-not-full g c =

@@ -2,8 +2,7 @@
 ghost use Rattle.art.specs.Answers.{outcome};
 ghost use Rattle.art.specs.Record.{ReceiveNoWait, ReceiveWait};
 ghost use Rattle.art.specs.Rules.{Answered};
-ghost use Rattle.calls.specs.Lines.{Does};
-use crate::answers::plainly;
+ghost use Rattle.engine.specs.Model.{Does};
 use art::Activity;
 use art::Answer;
 use art::LAST_MAILBOX;
@@ -12,6 +11,7 @@ use art::Order;
 use art::Refusal;
 use art::Status;
 use engine::Engine;
+use engine::plainly;
 use store::Store;
 
 // Takes the oldest message, or waits for one.

@@ -3,8 +3,7 @@ ghost use mathlib.Core.List.{[]};
 ghost use Rattle.art.specs.Answers.{outcome};
 ghost use Rattle.art.specs.Record.{CreateTask, Terminate};
 ghost use Rattle.art.specs.Rules.{Answered};
-ghost use Rattle.calls.specs.Lines.{Does};
-use crate::answers::plainly;
+ghost use Rattle.engine.specs.Model.{Does};
 use art::Activity;
 use art::Answer;
 use art::LAST_LEVEL;
@@ -16,6 +15,7 @@ use art::Task;
 use art::TaskNumber;
 use art::Urgency;
 use engine::Engine;
+use engine::plainly;
 use store::Store;
 
 // Makes a ready task.

@@ -3,7 +3,7 @@ ghost use mathlib.Core.List.{[]};
 ghost use Rattle.art.specs.Answers.{outcome};
 ghost use Rattle.art.specs.Record.{SendNoWait, SendWait};
 ghost use Rattle.art.specs.Rules.{Answered};
-ghost use Rattle.calls.specs.Lines.{Does};
+ghost use Rattle.engine.specs.Model.{Does};
 use art::Answer;
 use art::LAST_MAILBOX;
 use art::MailboxNumber;

@@ -1,38 +1,16 @@
-// The answer due, and the forms of an answer.
-ghost use mathlib.Core.Path.{_≡_};
+// The answer due.
 ghost use Rattle.art.specs.Answers.{outcome};
 ghost use Rattle.art.specs.Record.{Collect};
-ghost use Rattle.art.specs.Rules.{Answered, naming, plain};
-ghost use Rattle.calls.specs.Lines.{Does};
+ghost use Rattle.art.specs.Rules.{Answered};
+ghost use Rattle.engine.specs.Model.{Does};
 use art::Answer;
 use art::Due;
 use art::Order;
 use art::Refusal;
-use art::Status;
 use engine::Engine;
+use engine::about;
+use engine::plainly;
 use store::Store;
-
-pub(crate) fn plainly(status: Status) -> Answer
-    ensures { λ r. ⌜ r ≡ plain status ⌝ }
-{
-    Answer {
-        status,
-        message: None,
-        length: None,
-        displaced: None,
-    }
-}
-
-fn about(status: Status, message: u32) -> Answer
-    ensures { λ r. ⌜ r ≡ naming status message ⌝ }
-{
-    Answer {
-        status,
-        message: Some(message),
-        length: None,
-        displaced: None,
-    }
-}
 
 // Gives the running task the answer due, and ends the debt.
 pub fn collect<S: Store, O: Order>(

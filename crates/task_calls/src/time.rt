@@ -3,8 +3,7 @@ ghost use mathlib.Core.List.{[]};
 ghost use Rattle.art.specs.Answers.{outcome};
 ghost use Rattle.art.specs.Record.{SetDeadline, SetTicks, Tick, Wait};
 ghost use Rattle.art.specs.Rules.{Answered, Ticked};
-ghost use Rattle.calls.specs.Lines.{Does};
-use crate::answers::plainly;
+ghost use Rattle.engine.specs.Model.{Does};
 use art::Activity;
 use art::Answer;
 use art::Order;
@@ -12,6 +11,7 @@ use art::Refusal;
 use art::Status;
 use art::TaskNumber;
 use engine::Engine;
+use engine::plainly;
 use store::Store;
 
 // Puts the running task to sleep for some ticks.

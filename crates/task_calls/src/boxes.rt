@@ -3,8 +3,7 @@ ghost use mathlib.Core.List.{[]};
 ghost use Rattle.art.specs.Answers.{outcome};
 ghost use Rattle.art.specs.Record.{CreateMailbox, RemoveMailbox};
 ghost use Rattle.art.specs.Rules.{Answered};
-ghost use Rattle.calls.specs.Lines.{Does};
-use crate::answers::plainly;
+ghost use Rattle.engine.specs.Model.{Does};
 use art::Answer;
 use art::LAST_MAILBOX;
 use art::MOST_ENTRIES;
@@ -13,6 +12,7 @@ use art::Order;
 use art::Refusal;
 use art::Status;
 use engine::Engine;
+use engine::plainly;
 use store::MAX_LENGTH;
 use store::Store;
 
