@@ -1,14 +1,16 @@
 // What a tick does.
 ghost use mathlib.Core.List.{[]};
 ghost use mathlib.Core.Path.{_≡_};
+ghost use Prim.Native.Nat.{_≤_};
 ghost use Rattle.art.specs.Verbs.{edit-mailbox, leave-receivers, wake, withdraw};
-ghost use Rattle.art.specs.Rules.{Ticked, tick, tick-task};
+ghost use Rattle.art.specs.Rules.{Ticked, numbers-from, tick, tick-task, visited};
 ghost use Rattle.art.specs.declared.task.Event.the-variants.{Withdrawal};
-ghost use Rattle.engine.specs.Model.{Gives, kind-of, view};
+ghost use Rattle.engine.specs.Model.{Gives, kind-of, tick-to, view};
 use crate::messages::release;
 use crate::tables::Engine;
 use art::Activity;
 use art::Event;
+use art::LAST_TASK;
 use art::MailboxNumber;
 use art::Order;
 use art::TaskNumber;
@@ -58,17 +60,33 @@ impl<S: Store, O: Order> Engine<S, O> {
         }
     }
 
+    // Tasks 1 to `last` are visited, by rising number.
+    fn visit_all(&mut self, last: TaskNumber)
+        requires { ⌜ last ≤ 63 ⌝ }
+        ensures { λ _. ⌜ view S·Store (now (self .exit)) ≡ visited (kind-of S·Store O·Order) (view S·Store (now (self .entry))) (numbers-from 1 last) ⌝ }
+    {
+        for t in 1..last + 1 {
+            self.visit(t);
+        }
+    }
+
+    // A tick that visits tasks 1 to `last`.
+    fn tick_to(&mut self, last: TaskNumber) -> (usize, TaskNumber)
+        requires { ⌜ last ≤ 63 ⌝ }
+        ensures { λ r. ⌜ Gives (tick-to (kind-of S·Store O·Order) (view S·Store (now (self .entry))) last) (Ticked (r .0) (r .1)) [] (view S·Store (now (self .exit))) ⌝ }
+    {
+        let before = self.tables.roster.ready_len();
+        self.tables.counter = self.tables.counter.saturating_add(1);
+        self.visit_all(last);
+        let readied = self.tables.roster.ready_len().saturating_sub(before);
+        (readied, self.tables.roster.running())
+    }
+
     // The counter rises by 1, up to its largest value, and every task is visited by rising number.
     // Answers how many tasks were readied, and who runs.
     pub fn tick(&mut self) -> (usize, TaskNumber)
         ensures { λ r. ⌜ Gives (tick (kind-of S·Store O·Order) (view S·Store (now (self .entry)))) (Ticked (r .0) (r .1)) [] (view S·Store (now (self .exit))) ⌝ }
     {
-        let before = self.tables.roster.ready_len();
-        self.tables.counter = self.tables.counter.saturating_add(1);
-        for t in 1..64u8 {
-            self.visit(t);
-        }
-        let readied = self.tables.roster.ready_len().saturating_sub(before);
-        (readied, self.tables.roster.running())
+        self.tick_to(LAST_TASK)
     }
 }

@@ -22,7 +22,8 @@ impl<T: Copy, const N: usize> FixedList<T, N> {
     pub fn len(&self) -> usize
         ensures { λ r. ⌜ r ≡ length (items (now (self .entry))) ⌝ }
     {
-        self.len
+        let length = self.len;
+        length
     }
 
     // The item at a place.

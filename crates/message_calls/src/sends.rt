@@ -1,9 +1,12 @@
 // The two sends.
 ghost use mathlib.Core.List.{[]};
+ghost use mathlib.Core.Path.{_≡_};
+ghost use lib.Dec.{ltb};
 ghost use Rattle.art.specs.Answers.{outcome};
 ghost use Rattle.art.specs.Record.{SendNoWait, SendWait};
 ghost use Rattle.art.specs.Rules.{Answered};
-ghost use Rattle.engine.specs.Model.{Does};
+ghost use Rattle.art.specs.State.{top};
+ghost use Rattle.engine.specs.Model.{Does, view};
 use art::Answer;
 use art::LAST_MAILBOX;
 use art::MailboxNumber;
@@ -14,6 +17,13 @@ use store::Store;
 
 // The largest message number.
 const TOP: u64 = 4294967295;
+
+// Whether the last number has been used.
+fn numbers_spent<S: Store, O: Order>(engine: &Engine<S, O>) -> bool
+    ensures { λ r. ⌜ r ≡ ltb top (view S·Store (now (engine .entry)) .next) ⌝ }
+{
+    engine.tables.next > TOP
+}
 
 // Sends a message, and waits with it where no receiver waits for it.
 pub fn send_wait<S: Store, O: Order>(
@@ -45,7 +55,7 @@ pub fn send_wait<S: Store, O: Order>(
     if row.messages_fill() {
         return Err(Refusal::Full { mailbox });
     }
-    if engine.tables.next > TOP {
+    if numbers_spent(engine) {
         return Err(Refusal::NumbersSpent { task });
     }
     engine.post(mailbox, bytes, Some(task))
@@ -77,7 +87,7 @@ pub fn send_no_wait<S: Store, O: Order>(
     }
     let full = row.messages_fill();
     let oldest = row.oldest();
-    if engine.tables.next > TOP {
+    if numbers_spent(engine) {
         return Err(Refusal::NumbersSpent { task });
     }
     if !full {

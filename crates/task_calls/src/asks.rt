@@ -36,7 +36,8 @@ pub fn init<S: Store, O: Order>(mut store: S, order: O, first: u32) -> Engine<S,
 pub fn run<S: Store, O: Order>(engine: &mut Engine<S, O>)
     ensures { λ _. ⌜ Does S·Store O·Order Run (now (engine .entry)) Silent [] (now (engine .exit)) ⌝ }
 {
-    engine.tables.counter = 0;
+    let tables = &mut engine.tables;
+    tables.counter = 0;
 }
 
 pub fn ticks<S: Store, O: Order>(engine: &Engine<S, O>) -> u32
@@ -58,7 +59,7 @@ pub fn deadline<S: Store, O: Order>(engine: &Engine<S, O>) -> u32
 pub fn running<S: Store, O: Order>(engine: &Engine<S, O>) -> TaskNumber
     ensures { λ r. ⌜ Does S·Store O·Order Running (now (engine .entry)) (Number r) [] (now (engine .entry)) ⌝ }
 {
-    engine.running()
+    engine.tables.roster.running()
 }
 
 // The five counts.
