@@ -31,11 +31,27 @@ impl<T: Copy, const N: usize> FixedList<T, N> {
         requires { ⌜ i < length (items (now self)) ⌝ }
         ensures { λ r. ⌜ ((d : T) → r ≡ getD (items (now (self .entry))) i d) ⌝ }
     {
+        self.read(i)
+    }
+
+    // How `at` does it.
+    fn read(&self, i: usize) -> T
+        requires { ⌜ i < length (items (now self)) ⌝ }
+        ensures { λ r. ⌜ ((d : T) → r ≡ getD (items (now (self .entry))) i d) ⌝ }
+    {
         self.slots[i]
     }
 
     // One item more, at the end.
     pub fn push(&mut self, x: T)
+        requires { ⌜ length (items (now self)) < N ⌝ }
+        ensures { λ _. ⌜ items (now (self .exit)) ≡ items (now (self .entry)) ++ (x ∷ []) ⌝ }
+    {
+        self.append(x);
+    }
+
+    // How `push` does it.
+    fn append(&mut self, x: T)
         requires { ⌜ length (items (now self)) < N ⌝ }
         ensures { λ _. ⌜ items (now (self .exit)) ≡ items (now (self .entry)) ++ (x ∷ []) ⌝ }
     {
@@ -46,6 +62,15 @@ impl<T: Copy, const N: usize> FixedList<T, N> {
 
     // One item more, at a place; those from there on move up.
     pub fn insert(&mut self, i: usize, x: T)
+        requires place { ⌜ i ≤ length (items (now self)) ⌝ }
+        requires room { ⌜ length (items (now self)) < N ⌝ }
+        ensures { λ _. ⌜ items (now (self .exit)) ≡ inserted (items (now (self .entry))) i x ⌝ }
+    {
+        self.open_gap(i, x);
+    }
+
+    // How `insert` does it.
+    fn open_gap(&mut self, i: usize, x: T)
         requires place { ⌜ i ≤ length (items (now self)) ⌝ }
         requires room { ⌜ length (items (now self)) < N ⌝ }
         ensures { λ _. ⌜ items (now (self .exit)) ≡ inserted (items (now (self .entry))) i x ⌝ }
@@ -63,6 +88,14 @@ impl<T: Copy, const N: usize> FixedList<T, N> {
 
     // The item at a place leaves; those behind it move down.
     pub fn remove(&mut self, i: usize)
+        requires { ⌜ i < length (items (now self)) ⌝ }
+        ensures { λ _. ⌜ items (now (self .exit)) ≡ removed (items (now (self .entry))) i ⌝ }
+    {
+        self.close_gap(i);
+    }
+
+    // How `remove` does it.
+    fn close_gap(&mut self, i: usize)
         requires { ⌜ i < length (items (now self)) ⌝ }
         ensures { λ _. ⌜ items (now (self .exit)) ≡ removed (items (now (self .entry))) i ⌝ }
     {

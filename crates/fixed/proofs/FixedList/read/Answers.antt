@@ -3,7 +3,7 @@ use Prim.Native.Nat.{_<_}
 use mathlib.Core.Path.{sym, _∙_}
 use lib.ListN.{length, length-take}
 use Rattle.std.proofs.shelf.Lists.{getD-take, getD-default}
-use Rattle.fixed.proofs.FixedList.at.Needs as need
+use Rattle.fixed.proofs.FixedList.read.Needs as need
 
 pub returns : need.returns
 returns g c = λ d.

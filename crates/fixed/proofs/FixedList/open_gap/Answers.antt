@@ -2,7 +2,7 @@ use mathlib.Core.Path.{refl}
 use native.Mathlib.Omega.{arith}
 use lib.ListN.{length, length-take}
 use Rattle.fixed.proofs.Moves.{insert-rest, insert-more, insert-end}
-use Rattle.fixed.proofs.FixedList.insert.Needs as need
+use Rattle.fixed.proofs.FixedList.open_gap.Needs as need
 
 pub loop-k-again : need.loop-k-again
 loop-k-again g c =

@@ -1,7 +1,7 @@
 use mathlib.Core.Path.{_≡_}
 use mathlib.Core.List.{_∷_, _++_}
 use lib.ListN.{take, drop}
-use Rattle.fixed.proofs.FixedList.insert.Given as given
+use Rattle.fixed.proofs.FixedList.open_gap.Given as given
 
 abbrev pub Inv-loop-k : given.InvT-loop-k
 Inv-loop-k g l =

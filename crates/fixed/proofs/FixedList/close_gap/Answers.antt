@@ -2,7 +2,7 @@ use mathlib.Core.Path.{refl}
 use native.Mathlib.Omega.{arith}
 use lib.ListN.{length, length-take}
 use Rattle.fixed.proofs.Moves.{remove-rest, remove-more, remove-end}
-use Rattle.fixed.proofs.FixedList.remove.Needs as need
+use Rattle.fixed.proofs.FixedList.close_gap.Needs as need
 
 pub loop-k-again : need.loop-k-again
 loop-k-again g c =

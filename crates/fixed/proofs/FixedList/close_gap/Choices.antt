@@ -2,7 +2,7 @@ use mathlib.Core.Path.{_≡_}
 use mathlib.Core.List.{_∷_, _++_}
 use Prim.Native.Nat.{_+_}
 use lib.ListN.{take, drop}
-use Rattle.fixed.proofs.FixedList.remove.Given as given
+use Rattle.fixed.proofs.FixedList.close_gap.Given as given
 
 abbrev pub Inv-loop-k : given.InvT-loop-k
 Inv-loop-k g l =
