@@ -1,104 +1,117 @@
-// A day in the signing unit, in its first form: the bytes of a few signing orders go into a store,
-// are handed out again and dropped. It prints what was done, line by line, with the units in use.
+// A day in the signing unit, on a kernel over the packed store and the level order. Intake desks file signing
+// orders and wait until a signer has taken them, each under a deadline; signers give serials; inspectors pass
+// certificates on; a directory clerk publishes them; a clock tells the time. Ticks fall between calls by a
+// fixed pattern. Every line is one call of the kernel by the running task, or a tick.
+mod book;
+mod desk;
+mod work;
+
+use art::CountsDisplay;
+use art::LevelOrder;
+use art::LevelOrderOrder;
+use art::RefusalDisplay;
+use book::Book;
+use desk::Desk;
+use desk::staff;
+use kernel::Kernel;
+use kernel::StartUp;
+use kernel::init_kernel;
 use packed_store::PackedCalls;
 use packed_store::PackedStore;
-use slot_store::SlotCalls;
-use slot_store::SlotStore;
-use std::io;
-use std::str::from_utf8;
-use store::MAX_LENGTH;
-use store::Store;
-use store::StoreFaultDisplay;
+use std::error::AnyError;
+use work::work;
 
-// A request for a certificate, under the message number that it travels with.
-#[derive(Clone, Copy)]
-struct SigningOrder {
-    message: u32,
-    text: &'static str,
-}
+// A tick falls behind each call that stands under a `t`.
+const PATTERN: &[u8; 12] = b"...t...t...t";
 
-const ORDERS: [SigningOrder; 4] = [
-    SigningOrder {
-        message: 501,
-        text: "leaf CN=gate-1.example key=7f03 policy=2",
-    },
-    SigningOrder {
-        message: 502,
-        text: "leaf CN=gate-2.example key=19c4 policy=2",
-    },
-    SigningOrder {
-        message: 503,
-        text: "revoke serial=00a1 reason=4",
-    },
-    // Comes in again under a number that is taken.
-    SigningOrder {
-        message: 502,
-        text: "leaf CN=gate-2.example key=19c4 policy=2",
-    },
-];
+const CALLS: usize = 200;
 
-fn file<S: Store>(rt: &LibcRuntime, store: &mut S, order: SigningOrder) -> io::Result<()> {
-    let message = order.message;
-    let text = order.text;
-    match store.put(message, text.as_bytes()) {
-        Ok(()) => {
-            let used = store.used();
-            println!(rt, "put {message}: {text} (used {used})")
-        }
-        Err(fault) => println!(rt, "put {message}: {fault}"),
-    }
-}
+type Unit = Kernel<PackedStore, LevelOrder>;
 
-// The text at the front of a buffer.
-fn text_of(buffer: &[u8], length: usize) -> &str {
-    match buffer.get(0..length) {
-        Some(bytes) => from_utf8(bytes).unwrap_or("not text"),
-        None => "longer than the buffer",
-    }
-}
-
-fn hand_out<S: Store>(
+// Makes the three mailboxes and the dozen tasks.
+fn open_unit(
     rt: &LibcRuntime,
-    store: &S,
-    message: u32,
-    buffer: &mut [u8],
-) -> io::Result<()> {
-    match store.copy(message, buffer) {
-        Ok(length) => {
-            let text = text_of(buffer, length);
-            println!(rt, "copy {message}: {length} bytes: {text}")
+    unit: &mut StartUp<PackedStore, LevelOrder>,
+    desks: &Vec<Desk>,
+) -> Result<(), AnyError> {
+    for (mailbox, capacity, size) in [
+        (desk::ORDERS, 4, 24),
+        (desk::SIGNED, 8, 28),
+        (desk::INSPECTED, 8, 28),
+    ] {
+        if let Err(refusal) = unit.create_mailbox(mailbox, capacity, size) {
+            println!(rt, "create_mailbox {mailbox}: {refusal}")?;
         }
-        Err(fault) => println!(rt, "copy {message}: {fault}"),
     }
-}
-
-fn discard<S: Store>(rt: &LibcRuntime, store: &mut S, message: u32) -> io::Result<()> {
-    match store.discard(message) {
-        Ok(()) => {
-            let used = store.used();
-            println!(rt, "discard {message} (used {used})")
+    for desk in desks.iter() {
+        let task = desk.task;
+        let name = desk.name;
+        match unit.create_task(task, 4294967295, desk.level) {
+            Ok(_) => println!(rt, "task {task} is {name}")?,
+            Err(refusal) => println!(rt, "create_task {task}: {refusal}")?,
         }
-        Err(fault) => println!(rt, "discard {message}: {fault}"),
-    }
-}
-
-fn day<S: Store>(rt: &LibcRuntime, name: &str, store: &mut S) -> io::Result<()> {
-    let capacity = S::capacity();
-    println!(rt, "{name} store, {capacity} units")?;
-    for order in ORDERS {
-        file(rt, store, order)?;
-    }
-    hand_out(rt, store, 501, &mut [0; 16])?;
-    for message in 501..505 {
-        hand_out(rt, store, message, &mut [0; MAX_LENGTH])?;
-    }
-    for message in 501..505 {
-        discard(rt, store, message)?;
     }
     Ok(())
 }
 
-fn main(rt: LibcRuntime) -> io::Result<()> {
-    day(&rt, "slot", &mut SlotStore::new())?;
-    day(&rt, "packed", &mut PackedStore::new())
+fn tick(rt: &LibcRuntime, unit: &mut Unit) -> Result<(), AnyError> {
+    let (readied, running) = unit.tick();
+    let counter = unit.ticks();
+    println!(rt, "tick {counter}: readied={readied} running={running}")?;
+    Ok(())
+}
+
+// The running task makes one call; task 0 makes none.
+fn turn(
+    rt: &LibcRuntime,
+    unit: &mut Unit,
+    desks: &mut Vec<Desk>,
+    book: &mut Book,
+) -> Result<bool, AnyError> {
+    let running = unit.running();
+    if running == 0 {
+        return Ok(false);
+    }
+    if let Some(desk) = desks.get_mut(running as usize - 1) {
+        work(rt, unit, desk, book)?;
+    }
+    Ok(true)
+}
+
+fn day(
+    rt: &LibcRuntime,
+    unit: &mut Unit,
+    desks: &mut Vec<Desk>,
+    book: &mut Book,
+) -> Result<(), AnyError> {
+    let mut next = 0usize;
+    for _ in 0..CALLS {
+        let called = turn(rt, unit, desks, book)?;
+        if !called || PATTERN[next % 12] == b't' {
+            tick(rt, unit)?;
+        }
+        next = next.wrapping_add(1);
+    }
+    Ok(())
+}
+
+fn run(rt: &LibcRuntime) -> Result<(), AnyError> {
+    println!(
+        rt,
+        "ticks by the pattern ...t...t...t, and whenever task 0 runs"
+    )?;
+    let mut desks = staff(rt.alloc())?;
+    let mut book = Book::new(rt.alloc());
+    let mut start_up = init_kernel(PackedStore::new(), LevelOrder, 1);
+    open_unit(rt, &mut start_up, &desks)?;
+    let mut unit = start_up.run();
+    day(rt, &mut unit, &mut desks, &mut book)?;
+    book.show(rt)?;
+    let counts = unit.close();
+    println!(rt, "{counts}")?;
+    Ok(())
+}
+
+fn main(rt: LibcRuntime) -> Result<(), AnyError> {
+    rt.report(run(&rt))
 }
