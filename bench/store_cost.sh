@@ -1,21 +1,8 @@
 #!/bin/sh
-# Instructions per store call on messages of 128 bytes, counted by callgrind: the difference of two runs,
-# divided by the turns between them. Run from the repository's root after `rt check store_cost`.
+# Instructions per store call on messages of 128 bytes. Run from the repository's root after `rt check store_cost`.
 set -eu
 program=target/bin/store_cost
-out=$(mktemp)
-trap 'rm -f "$out"' EXIT
-
-instructions() { # kind turn held turns
-    valgrind --tool=callgrind --callgrind-out-file="$out" "$program" "$@" >/dev/null 2>&1
-    sed -n 's/^summary: //p; s/^totals: //p' "$out" | head -n 1
-}
-
-per_turn() { # kind turn held
-    few=$(instructions "$1" "$2" "$3" 1000)
-    many=$(instructions "$1" "$2" "$3" 2000)
-    echo $(((many - few) / 1000))
-}
+. bench/instructions.sh
 
 line='%-7s %12s %6s %6s %8s %12s %6s\n'
 printf "$line" store 'held beside' put copy discard put+discard clear

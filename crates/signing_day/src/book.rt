@@ -33,20 +33,20 @@ pub struct Book {
 
 impl Subject {
     // The name without its blanks.
-    pub fn name(&self) -> &str {
+    pub(crate) fn name(&self) -> &str {
         from_utf8(&self.0).unwrap_or("not text").trim_end()
     }
 }
 
 impl Book {
-    pub fn new(heap: Global) -> Book {
+    pub(crate) fn new(heap: Global) -> Book {
         Book {
             certificates: Vec::new(heap),
         }
     }
 
     // The next serial, for a subject.
-    pub fn enter(&mut self, subject: Subject) -> Result<u32, AllocError> {
+    pub(crate) fn enter(&mut self, subject: Subject) -> Result<u32, AllocError> {
         let serial = 1000u32.saturating_add(self.certificates.len().min(1000) as u32);
         self.certificates.push(Certificate { subject, serial })?;
         Ok(serial)
@@ -63,7 +63,7 @@ impl Book {
     }
 
     // Every certificate, and whether a subject has two serials.
-    pub fn show(&self, rt: &LibcRuntime) -> io::Result<()> {
+    pub(crate) fn show(&self, rt: &LibcRuntime) -> io::Result<()> {
         let mut twice = 0u32;
         for certificate in self.certificates.iter() {
             let name = certificate.subject.name();

@@ -91,7 +91,7 @@ fn intake(name: &'static str, task: TaskNumber, patience: u32, order: usize) -> 
 }
 
 // A dozen tasks, by rising number from 1.
-pub fn staff(heap: Global) -> Result<Vec<Desk>, AllocError> {
+pub(crate) fn staff(heap: Global) -> Result<Vec<Desk>, AllocError> {
     let mut all = Vec::new(heap);
     all.push(intake("intake-1", 1, 5, 0))?;
     all.push(intake("intake-2", 2, 5, 2))?;

@@ -44,7 +44,7 @@ fn is(reply: &Reply, status: Status) -> bool {
     }
 }
 
-pub fn work(
+pub(crate) fn work(
     rt: &LibcRuntime,
     unit: &mut Unit,
     desk: &mut Desk,
