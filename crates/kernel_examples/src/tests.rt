@@ -1,45 +1,30 @@
-// Every example by name; each is run over both stores and both orders.
+// The examples, played over both stores and both orders.
 mod deadlines;
 mod fates;
 mod hand_overs;
 mod kernel_refusals;
-mod made;
 mod mailbox_refusals;
+mod play;
+mod script;
+mod start_up;
 mod store_full;
 mod turns;
 
-use crate::tests::deadlines::counter_set;
-use crate::tests::deadlines::last_tick;
-use crate::tests::deadlines::longest_sleeps;
-use crate::tests::deadlines::receiver_at_its_deadline;
-use crate::tests::deadlines::shortest_sleeps;
-use crate::tests::deadlines::sleeper_at_its_deadline;
-use crate::tests::fates::displaced;
-use crate::tests::fates::numbers_spent;
-use crate::tests::fates::the_other_stays;
-use crate::tests::fates::told_late;
-use crate::tests::fates::withdrawn;
-use crate::tests::hand_overs::mailbox_gone;
-use crate::tests::hand_overs::nobody_waits;
-use crate::tests::hand_overs::receiver_first;
-use crate::tests::hand_overs::receiver_told;
-use crate::tests::hand_overs::sender_first;
-use crate::tests::hand_overs::sender_gone;
-use crate::tests::hand_overs::sender_polled;
-use crate::tests::kernel_refusals::answer_due;
-use crate::tests::kernel_refusals::nothing_due_and_idle;
-use crate::tests::kernel_refusals::numbers_and_levels;
-use crate::tests::kernel_refusals::shapes_and_taken;
-use crate::tests::mailbox_refusals::full_of_messages;
-use crate::tests::mailbox_refusals::full_of_receivers;
-use crate::tests::mailbox_refusals::mailbox_rows;
-use crate::tests::mailbox_refusals::short_collect;
-use crate::tests::store_full::packed_full;
-use crate::tests::store_full::slots_full;
-use crate::tests::turns::equally_urgent;
-use crate::tests::turns::new_deadline;
-use crate::tests::turns::runs_in_turn;
-use crate::tests::turns::wakes_in_turn;
+use crate::tests::deadlines::DEADLINES;
+use crate::tests::deadlines::SLEEPS;
+use crate::tests::fates::FATES;
+use crate::tests::hand_overs::SENDERS_GO_ON;
+use crate::tests::hand_overs::SENDERS_WAIT;
+use crate::tests::kernel_refusals::KERNEL_REFUSALS;
+use crate::tests::mailbox_refusals::MAILBOX_REFUSALS;
+use crate::tests::play::play;
+use crate::tests::script::Example;
+use crate::tests::start_up::start_up_refuses;
+use crate::tests::store_full::MEMORY_FULL;
+use crate::tests::store_full::SLOTS_FULL;
+use crate::tests::turns::DEADLINE_TURNS;
+use crate::tests::turns::EQUALS;
+use crate::tests::turns::LEVEL_TURNS;
 use art::DeadlineOrder;
 use art::DeadlineOrderOrder;
 use art::LevelOrder;
@@ -50,112 +35,114 @@ use slot_store::SlotCalls;
 use slot_store::SlotStore;
 use std::test::*;
 
-// Runs an example over each of the four kinds of kernel.
-macro_rules! on_every_kind {
-    ($example:ident) => {{
-        $example(SlotStore::new(), DeadlineOrder)?;
-        $example(SlotStore::new(), LevelOrder)?;
-        $example(PackedStore::new(), DeadlineOrder)?;
-        $example(PackedStore::new(), LevelOrder)?;
-    }};
-}
-
-#[test]
-fn a_sender_that_waits() -> Result<(), Fail> {
-    on_every_kind!(receiver_first);
-    on_every_kind!(sender_first);
-    on_every_kind!(sender_polled);
+fn slots_by_deadline(examples: &[Example]) -> Result<(), Fail> {
+    for example in examples {
+        play(SlotStore::new(), DeadlineOrder, example).note(example.name)?;
+    }
     Ok(())
 }
 
-#[test]
-fn a_sender_that_goes_on() -> Result<(), Fail> {
-    on_every_kind!(receiver_told);
-    on_every_kind!(sender_gone);
-    on_every_kind!(nobody_waits);
-    on_every_kind!(mailbox_gone);
+fn slots_by_level(examples: &[Example]) -> Result<(), Fail> {
+    for example in examples {
+        play(SlotStore::new(), LevelOrder, example).note(example.name)?;
+    }
     Ok(())
 }
 
-#[test]
-fn fates_of_messages() -> Result<(), Fail> {
-    on_every_kind!(displaced);
-    on_every_kind!(withdrawn);
-    on_every_kind!(the_other_stays);
+fn packed_by_deadline(examples: &[Example]) -> Result<(), Fail> {
+    for example in examples {
+        play(PackedStore::new(), DeadlineOrder, example).note(example.name)?;
+    }
     Ok(())
 }
 
-#[test]
-fn numbers_and_times_of_messages() -> Result<(), Fail> {
-    on_every_kind!(told_late);
-    on_every_kind!(numbers_spent);
+fn packed_by_level(examples: &[Example]) -> Result<(), Fail> {
+    for example in examples {
+        play(PackedStore::new(), LevelOrder, example).note(example.name)?;
+    }
     Ok(())
+}
+
+// Both stores and both orders.
+fn on_every_kind(examples: &[Example]) -> Result<(), Fail> {
+    slots_by_deadline(examples)?;
+    slots_by_level(examples)?;
+    packed_by_deadline(examples)?;
+    packed_by_level(examples)
+}
+
+#[test]
+fn senders_that_wait() -> Result<(), Fail> {
+    on_every_kind(&SENDERS_WAIT)
+}
+
+#[test]
+fn senders_that_go_on() -> Result<(), Fail> {
+    on_every_kind(&SENDERS_GO_ON)
+}
+
+#[test]
+fn messages_meet_their_fates() -> Result<(), Fail> {
+    on_every_kind(&FATES)
 }
 
 #[test]
 fn the_kernel_refuses() -> Result<(), Fail> {
-    on_every_kind!(numbers_and_levels);
-    on_every_kind!(shapes_and_taken);
-    on_every_kind!(answer_due);
-    on_every_kind!(nothing_due_and_idle);
-    Ok(())
+    on_every_kind(&KERNEL_REFUSALS)
 }
 
 #[test]
 fn a_mailbox_refuses() -> Result<(), Fail> {
-    on_every_kind!(mailbox_rows);
-    on_every_kind!(short_collect);
-    on_every_kind!(full_of_messages);
-    on_every_kind!(full_of_receivers);
-    Ok(())
+    on_every_kind(&MAILBOX_REFUSALS)
 }
 
 #[test]
 fn deadlines_are_reached() -> Result<(), Fail> {
-    on_every_kind!(receiver_at_its_deadline);
-    on_every_kind!(sleeper_at_its_deadline);
-    on_every_kind!(last_tick);
-    Ok(())
+    on_every_kind(&DEADLINES)
 }
 
 #[test]
 fn sleep_ends() -> Result<(), Fail> {
-    on_every_kind!(shortest_sleeps);
-    on_every_kind!(longest_sleeps);
-    on_every_kind!(counter_set);
-    Ok(())
+    on_every_kind(&SLEEPS)
 }
 
 #[test]
-fn a_full_store_refuses() -> Result<(), Fail> {
-    slots_full(DeadlineOrder)?;
-    slots_full(LevelOrder)?;
-    packed_full(DeadlineOrder)?;
-    packed_full(LevelOrder)
+fn equally_urgent_tasks_keep_their_turn() -> Result<(), Fail> {
+    on_every_kind(&EQUALS)
 }
 
 #[test]
-fn equals_keep_their_turn() -> Result<(), Fail> {
-    on_every_kind!(equally_urgent);
-    Ok(())
+fn a_start_up_kernel_refuses() -> Result<(), Fail> {
+    start_up_refuses(SlotStore::new(), DeadlineOrder)?;
+    start_up_refuses(SlotStore::new(), LevelOrder)?;
+    start_up_refuses(PackedStore::new(), DeadlineOrder)?;
+    start_up_refuses(PackedStore::new(), LevelOrder)
+}
+
+#[test]
+fn a_full_slot_store_refuses() -> Result<(), Fail> {
+    let examples = &SLOTS_FULL;
+    slots_by_deadline(examples)?;
+    slots_by_level(examples)
+}
+
+#[test]
+fn a_full_packed_store_refuses() -> Result<(), Fail> {
+    let examples = &MEMORY_FULL;
+    packed_by_deadline(examples)?;
+    packed_by_level(examples)
 }
 
 #[test]
 fn the_smaller_deadline_goes_before() -> Result<(), Fail> {
-    runs_in_turn(SlotStore::new(), DeadlineOrder, [1, 2, 3])?;
-    runs_in_turn(PackedStore::new(), DeadlineOrder, [1, 2, 3])?;
-    wakes_in_turn(SlotStore::new(), DeadlineOrder, 1)?;
-    wakes_in_turn(PackedStore::new(), DeadlineOrder, 1)?;
-    new_deadline(SlotStore::new(), DeadlineOrder, 2)?;
-    new_deadline(PackedStore::new(), DeadlineOrder, 2)
+    let examples = &DEADLINE_TURNS;
+    slots_by_deadline(examples)?;
+    packed_by_deadline(examples)
 }
 
 #[test]
 fn the_smaller_level_goes_before() -> Result<(), Fail> {
-    runs_in_turn(SlotStore::new(), LevelOrder, [3, 2, 1])?;
-    runs_in_turn(PackedStore::new(), LevelOrder, [3, 2, 1])?;
-    wakes_in_turn(SlotStore::new(), LevelOrder, 2)?;
-    wakes_in_turn(PackedStore::new(), LevelOrder, 2)?;
-    new_deadline(SlotStore::new(), LevelOrder, 1)?;
-    new_deadline(PackedStore::new(), LevelOrder, 1)
+    let examples = &LEVEL_TURNS;
+    slots_by_level(examples)?;
+    packed_by_level(examples)
 }

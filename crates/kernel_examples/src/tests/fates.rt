@@ -1,120 +1,79 @@
 // Messages that are displaced, withdrawn, or received just in time.
-use crate::tests::made::bringing;
-use crate::tests::made::counts;
-use crate::tests::made::displacing;
-use crate::tests::made::naming;
-use crate::tests::made::pair;
-use crate::tests::made::plain;
-use art::AnswerDebug;
-use art::AnswerPartialEq;
-use art::CountsDebug;
-use art::CountsPartialEq;
-use art::Order;
+use crate::tests::script::BLOCKED;
+use crate::tests::script::Call;
+use crate::tests::script::Example;
+use crate::tests::script::Line;
+use crate::tests::script::OK;
+use crate::tests::script::PAIR;
+use crate::tests::script::Says;
 use art::Refusal;
-use art::RefusalDebug;
-use art::RefusalPartialEq;
 use art::Status;
-use kernel::init_kernel;
-use std::test::*;
-use store::Store;
 
-// The third message at capacity 2 displaces the oldest, and the second is taken.
-pub(crate) fn displaced<S: Store + Drop, O: Order + Drop>(store: S, order: O) -> Result<(), Fail> {
-    let mut kernel = pair(store, order)?;
-    let mut buffer = *b"....";
-    check_eq(kernel.send_no_wait(3, b"hi"), Ok(naming(Status::Ok, 7)))?;
-    check_eq(kernel.send_no_wait(3, b"ho"), Ok(naming(Status::Ok, 8)))?;
-    check_eq(kernel.send_no_wait(3, b"hu"), Ok(displacing(9, 7)))?;
-    check_eq(kernel.receive_no_wait(3, &mut buffer), Ok(bringing(8, 2)))?;
-    check_eq(buffer, *b"ho..")?;
-    check_eq(kernel.close(), counts(3, 1, 1, 0, 1))
-}
-
-// The sender's deadline, 10, is reached while it waits: its message is withdrawn.
-pub(crate) fn withdrawn<S: Store + Drop, O: Order + Drop>(store: S, order: O) -> Result<(), Fail> {
-    let mut kernel = pair(store, order)?;
-    let mut buffer = *b"....";
-    check_eq(kernel.send_wait(3, b"hi"), Ok(naming(Status::Blocked, 7)))?;
-    check_eq(kernel.set_ticks(8), Ok(plain(Status::Ok)))?;
-    check_eq(kernel.tick(), (0, 2))?;
-    check_eq(kernel.tick(), (1, 1))?;
-    check_eq(
-        kernel.collect(&mut buffer),
-        Ok(naming(Status::DeadlineReached, 7)),
-    )?;
-    check_eq(
-        kernel.receive_no_wait(3, &mut buffer),
-        Err(Refusal::Empty { mailbox: 3 }),
-    )?;
-    check_eq(buffer, *b"....")?;
-    check_eq(kernel.close(), counts(1, 0, 0, 1, 0))
-}
-
-// The older of two waiting messages is withdrawn, and the other is received.
-pub(crate) fn the_other_stays<S: Store + Drop, O: Order + Drop>(
-    store: S,
-    order: O,
-) -> Result<(), Fail> {
-    let mut kernel = pair(store, order)?;
-    let mut buffer = *b"....";
-    check_eq(kernel.send_wait(3, b"hi"), Ok(naming(Status::Blocked, 7)))?;
-    check_eq(kernel.send_wait(3, b"ho"), Ok(naming(Status::Blocked, 8)))?;
-    check_eq(kernel.set_ticks(9), Ok(plain(Status::Ok)))?;
-    check_eq(kernel.tick(), (1, 1))?;
-    check_eq(
-        kernel.collect(&mut []),
-        Ok(naming(Status::DeadlineReached, 7)),
-    )?;
-    check_eq(kernel.receive_no_wait(3, &mut buffer), Ok(bringing(8, 2)))?;
-    check_eq(buffer, *b"ho..")?;
-    check_eq(kernel.close(), counts(2, 0, 1, 1, 0))
-}
-
-// A message received at 19, before its sender's deadline of 20, is not withdrawn by the time its sender runs, at 31.
-pub(crate) fn told_late<S: Store + Drop, O: Order + Drop>(store: S, order: O) -> Result<(), Fail> {
-    let mut kernel = pair(store, order)?;
-    let mut buffer = *b"....";
-    check_eq(kernel.wait(0), Ok(plain(Status::Blocked)))?;
-    check_eq(kernel.send_wait(3, b"hi"), Ok(naming(Status::Blocked, 7)))?;
-    check_eq(kernel.tick(), (1, 1))?;
-    check_eq(kernel.collect(&mut []), Ok(plain(Status::Ok)))?;
-    check_eq(kernel.set_ticks(19), Ok(plain(Status::Ok)))?;
-    check_eq(kernel.receive_wait(3, &mut buffer), Ok(bringing(7, 2)))?;
-    for _ in 0..12 {
-        check_eq(kernel.tick(), (0, 1))?;
-    }
-    check_eq(kernel.ticks(), 31)?;
-    check_eq(kernel.terminate(), Ok(plain(Status::Ok)))?;
-    check_eq(kernel.collect(&mut []), Ok(naming(Status::Ok, 7)))?;
-    check_eq(kernel.close(), counts(1, 0, 1, 0, 0))
-}
-
-// The last message number is used once, and a refused send displaces nothing.
-pub(crate) fn numbers_spent<S: Store + Drop, O: Order + Drop>(
-    store: S,
-    order: O,
-) -> Result<(), Fail> {
-    let mut start = init_kernel(store, order, 4294967295);
-    start.create_task(1, 10, 1)?;
-    start.create_mailbox(3, 1, 2)?;
-    let mut kernel = start.run();
-    let mut buffer = *b"....";
-    check_eq(
-        kernel.send_no_wait(3, b"hi"),
-        Ok(naming(Status::Ok, 4294967295)),
-    )?;
-    check_eq(
-        kernel.send_no_wait(3, b"ho"),
-        Err(Refusal::NumbersSpent { task: 1 }),
-    )?;
-    check_eq(
-        kernel.receive_no_wait(3, &mut buffer),
-        Ok(bringing(4294967295, 2)),
-    )?;
-    check_eq(buffer, *b"hi..")?;
-    check_eq(
-        kernel.send_wait(3, b"ho"),
-        Err(Refusal::NumbersSpent { task: 1 }),
-    )?;
-    check_eq(kernel.close(), counts(1, 0, 1, 0, 0))
-}
+pub(crate) const FATES: [Example; 4] = [
+    // The third message at capacity 2 displaces the oldest, and the second is taken.
+    Example {
+        name: "displaced",
+        first: 7,
+        tasks: &PAIR,
+        lines: &[
+            Line::Call(Call::SendNoWait(3, b"hi"), Says::Naming(Status::Ok, 7)),
+            Line::Call(Call::SendNoWait(3, b"ho"), Says::Naming(Status::Ok, 8)),
+            Line::Call(Call::SendNoWait(3, b"hu"), Says::Displacing(9, 7)),
+            Line::Call(Call::ReceiveNoWait(3), Says::Brings(8, 2, *b"ho..")),
+        ],
+        counts: [3, 1, 1, 0, 1],
+    },
+    // The deadline of a sender, 10, is reached while it waits: its message is withdrawn.
+    Example {
+        name: "withdrawn",
+        first: 7,
+        tasks: &PAIR,
+        lines: &[
+            Line::Call(Call::SendWait(3, b"hi"), Says::Naming(Status::Blocked, 7)),
+            Line::Call(Call::SetTicks(8), OK),
+            Line::Tick(0, 2),
+            Line::Tick(1, 1),
+            Line::Call(Call::Collect, Says::Naming(Status::DeadlineReached, 7)),
+            Line::Refused(Call::ReceiveNoWait(3), Refusal::Empty { mailbox: 3 }),
+        ],
+        counts: [1, 0, 0, 1, 0],
+    },
+    // The older of two waiting messages is withdrawn, and the other is received.
+    Example {
+        name: "the other stays",
+        first: 7,
+        tasks: &PAIR,
+        lines: &[
+            Line::Call(Call::SendWait(3, b"hi"), Says::Naming(Status::Blocked, 7)),
+            Line::Call(Call::SendWait(3, b"ho"), Says::Naming(Status::Blocked, 8)),
+            Line::Call(Call::SetTicks(9), OK),
+            Line::Tick(1, 1),
+            Line::Call(Call::Collect, Says::Naming(Status::DeadlineReached, 7)),
+            Line::Call(Call::ReceiveNoWait(3), Says::Brings(8, 2, *b"ho..")),
+            Line::Call(Call::Terminate, OK),
+            Line::Call(Call::Collect, Says::Naming(Status::Ok, 8)),
+        ],
+        counts: [2, 0, 1, 1, 0],
+    },
+    // The sender with deadline 20, received at 19, runs only at 31, and is told OK.
+    Example {
+        name: "told late",
+        first: 7,
+        tasks: &PAIR,
+        lines: &[
+            Line::Call(Call::Wait(0), BLOCKED),
+            Line::Call(Call::SendWait(3, b"hi"), Says::Naming(Status::Blocked, 7)),
+            Line::Tick(1, 1),
+            Line::Call(Call::Collect, OK),
+            Line::Call(Call::SetTicks(19), OK),
+            Line::Call(Call::ReceiveWait(3), Says::Brings(7, 2, *b"hi..")),
+            Line::Tick(0, 1),
+            Line::Call(Call::SetTicks(30), OK),
+            Line::Tick(0, 1),
+            Line::Ticks(31),
+            Line::Call(Call::Terminate, OK),
+            Line::Call(Call::Collect, Says::Naming(Status::Ok, 7)),
+        ],
+        counts: [1, 0, 1, 0, 0],
+    },
+];

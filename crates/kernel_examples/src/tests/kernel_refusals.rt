@@ -1,130 +1,101 @@
 // Refusals of the kernel itself.
-use crate::tests::made::counts;
-use crate::tests::made::pair;
-use crate::tests::made::plain;
-use art::AnswerDebug;
-use art::AnswerPartialEq;
-use art::CountsDebug;
-use art::CountsPartialEq;
-use art::Order;
+use crate::tests::script::BLOCKED;
+use crate::tests::script::Call;
+use crate::tests::script::Example;
+use crate::tests::script::Line;
+use crate::tests::script::OK;
+use crate::tests::script::PAIR;
+use crate::tests::script::Says;
 use art::Refusal;
-use art::RefusalDebug;
-use art::RefusalPartialEq;
 use art::Status;
-use kernel::init_kernel;
-use std::test::*;
-use store::Store;
 
-// A number that is not allowed, and a level that is not: rows 4 and 5.
-pub(crate) fn numbers_and_levels<S: Store + Drop, O: Order + Drop>(
-    store: S,
-    order: O,
-) -> Result<(), Fail> {
-    let mut start = init_kernel(store, order, 7);
-    check_eq(
-        start.create_task(0, 10, 1),
-        Err(Refusal::BadNumber { given: 0 }),
-    )?;
-    check_eq(
-        start.create_task(64, 10, 32),
-        Err(Refusal::BadNumber { given: 64 }),
-    )?;
-    check_eq(
-        start.create_task(63, 10, 32),
-        Err(Refusal::BadLevel { given: 63 }),
-    )?;
-    check_eq(
-        start.create_mailbox(32, 0, 0),
-        Err(Refusal::BadNumber { given: 32 }),
-    )?;
-    let mut kernel = start.run();
-    let mut buffer = *b"....";
-    check_eq(
-        kernel.remove_mailbox(32),
-        Err(Refusal::BadNumber { given: 32 }),
-    )?;
-    check_eq(
-        kernel.send_no_wait(32, b"hi"),
-        Err(Refusal::BadNumber { given: 32 }),
-    )?;
-    check_eq(
-        kernel.receive_no_wait(255, &mut buffer),
-        Err(Refusal::BadNumber { given: 255 }),
-    )?;
-    check_eq(buffer, *b"....")?;
-    check_eq(kernel.close(), counts(0, 0, 0, 0, 0))
-}
-
-// A shape that is not allowed, and a number that is taken: rows 6 and 7.
-pub(crate) fn shapes_and_taken<S: Store + Drop, O: Order + Drop>(
-    store: S,
-    order: O,
-) -> Result<(), Fail> {
-    let mut kernel = pair(store, order)?;
-    check_eq(
-        kernel.create_mailbox(31, 0, 1),
-        Err(Refusal::BadShape { given: 31 }),
-    )?;
-    check_eq(
-        kernel.create_mailbox(31, 17, 1),
-        Err(Refusal::BadShape { given: 31 }),
-    )?;
-    check_eq(
-        kernel.create_mailbox(31, 1, 0),
-        Err(Refusal::BadShape { given: 31 }),
-    )?;
-    check_eq(
-        kernel.create_mailbox(3, 1, 129),
-        Err(Refusal::BadShape { given: 3 }),
-    )?;
-    check_eq(
-        kernel.create_mailbox(3, 16, 128),
-        Err(Refusal::Taken { given: 3 }),
-    )?;
-    check_eq(kernel.create_mailbox(31, 16, 128), Ok(plain(Status::Ok)))?;
-    check_eq(
-        kernel.create_task(2, 5, 31),
-        Err(Refusal::Taken { given: 2 }),
-    )?;
-    check_eq(kernel.create_task(63, 5, 31), Ok(plain(Status::Ok)))
-}
-
-// An answer is due to the running task: row 1 comes before all others.
-pub(crate) fn answer_due<S: Store + Drop, O: Order + Drop>(store: S, order: O) -> Result<(), Fail> {
-    let mut kernel = pair(store, order)?;
-    let mut buffer = *b"....";
-    let due = Refusal::AnswerDue { task: 1 };
-    check_eq(kernel.wait(0), Ok(plain(Status::Blocked)))?;
-    check_eq(kernel.tick(), (1, 1))?;
-    check_eq(kernel.create_task(0, 0, 32), Err(due))?;
-    check_eq(kernel.send_wait(32, b""), Err(due))?;
-    check_eq(kernel.send_no_wait(3, b"hi"), Err(due))?;
-    check_eq(kernel.receive_wait(3, &mut buffer), Err(due))?;
-    check_eq(kernel.receive_no_wait(32, &mut []), Err(due))?;
-    check_eq(kernel.set_ticks(9), Err(due))?;
-    check_eq(kernel.tick(), (0, 1))?;
-    check_eq(kernel.collect(&mut buffer), Ok(plain(Status::Ok)))?;
-    check_eq(buffer, *b"....")
-}
-
-// Nothing is due, row 2; the idle task neither waits, sleeps nor ends, row 3.
-pub(crate) fn nothing_due_and_idle<S: Store + Drop, O: Order + Drop>(
-    store: S,
-    order: O,
-) -> Result<(), Fail> {
-    let mut kernel = init_kernel(store, order, 7).run();
-    let mut buffer = *b"....";
-    let idle = Refusal::IdleTask { task: 0 };
-    check_eq(
-        kernel.collect(&mut buffer),
-        Err(Refusal::NothingDue { task: 0 }),
-    )?;
-    check_eq(kernel.send_wait(32, b"hi"), Err(idle))?;
-    check_eq(kernel.receive_wait(32, &mut buffer), Err(idle))?;
-    check_eq(kernel.wait(0), Err(idle))?;
-    check_eq(kernel.terminate(), Err(idle))?;
-    check_eq(kernel.set_deadline(5), Err(idle))?;
-    check_eq(buffer, *b"....")?;
-    check_eq(kernel.deadline(), 4294967295)?;
-    check_eq(kernel.running(), 0)
-}
+pub(crate) const KERNEL_REFUSALS: [Example; 4] = [
+    // An answer is due to the running task: row 1 comes before all others.
+    Example {
+        name: "answer due",
+        first: 7,
+        tasks: &PAIR,
+        lines: &[
+            Line::Call(Call::Wait(0), BLOCKED),
+            Line::Tick(1, 1),
+            Line::Refused(Call::CreateTask(0, 0, 32), Refusal::AnswerDue { task: 1 }),
+            Line::Refused(Call::SendWait(32, b""), Refusal::AnswerDue { task: 1 }),
+            Line::Refused(Call::SendNoWait(3, b"hi"), Refusal::AnswerDue { task: 1 }),
+            Line::Refused(Call::ReceiveWait(3), Refusal::AnswerDue { task: 1 }),
+            Line::Refused(Call::SetTicks(9), Refusal::AnswerDue { task: 1 }),
+            Line::Tick(0, 1),
+            Line::Call(Call::Collect, OK),
+        ],
+        counts: [0, 0, 0, 0, 0],
+    },
+    // Nothing is due, row 2; the idle task neither waits, sleeps nor ends, row 3.
+    Example {
+        name: "idle task",
+        first: 7,
+        tasks: &[],
+        lines: &[
+            Line::Refused(Call::Collect, Refusal::NothingDue { task: 0 }),
+            Line::Refused(Call::SendWait(32, b"hi"), Refusal::IdleTask { task: 0 }),
+            Line::Refused(Call::ReceiveWait(32), Refusal::IdleTask { task: 0 }),
+            Line::Refused(Call::Wait(0), Refusal::IdleTask { task: 0 }),
+            Line::Refused(Call::Terminate, Refusal::IdleTask { task: 0 }),
+            Line::Refused(Call::SetDeadline(5), Refusal::IdleTask { task: 0 }),
+            Line::Deadline(4294967295),
+        ],
+        counts: [0, 0, 0, 0, 0],
+    },
+    // A number, level or shape that is not allowed, or a number in use: rows 4 to 7.
+    Example {
+        name: "numbers and shapes",
+        first: 7,
+        tasks: &PAIR,
+        lines: &[
+            Line::Refused(
+                Call::CreateTask(64, 5, 32),
+                Refusal::BadNumber { given: 64 },
+            ),
+            Line::Refused(Call::CreateTask(2, 5, 32), Refusal::BadLevel { given: 2 }),
+            Line::Refused(Call::CreateTask(2, 5, 31), Refusal::Taken { given: 2 }),
+            Line::Refused(
+                Call::CreateMailbox(32, 0, 0),
+                Refusal::BadNumber { given: 32 },
+            ),
+            Line::Refused(
+                Call::CreateMailbox(3, 17, 1),
+                Refusal::BadShape { given: 3 },
+            ),
+            Line::Refused(Call::CreateMailbox(3, 1, 0), Refusal::BadShape { given: 3 }),
+            Line::Refused(
+                Call::CreateMailbox(3, 1, 129),
+                Refusal::BadShape { given: 3 },
+            ),
+            Line::Refused(Call::CreateMailbox(3, 16, 128), Refusal::Taken { given: 3 }),
+            Line::Call(Call::CreateMailbox(31, 16, 128), OK),
+            Line::Refused(Call::ReceiveNoWait(32), Refusal::BadNumber { given: 32 }),
+        ],
+        counts: [0, 0, 0, 0, 0],
+    },
+    // The last number is used once: row 16, and a refused send displaces nothing.
+    Example {
+        name: "numbers spent",
+        first: 4294967295,
+        tasks: &PAIR,
+        lines: &[
+            Line::Call(Call::CreateMailbox(4, 1, 2), OK),
+            Line::Call(
+                Call::SendNoWait(4, b"hi"),
+                Says::Naming(Status::Ok, 4294967295),
+            ),
+            Line::Refused(
+                Call::SendNoWait(4, b"ho"),
+                Refusal::NumbersSpent { task: 1 },
+            ),
+            Line::Call(
+                Call::ReceiveNoWait(4),
+                Says::Brings(4294967295, 2, *b"hi.."),
+            ),
+            Line::Refused(Call::SendWait(4, b"ho"), Refusal::NumbersSpent { task: 1 }),
+        ],
+        counts: [1, 0, 1, 0, 0],
+    },
+];

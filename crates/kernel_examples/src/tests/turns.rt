@@ -1,84 +1,133 @@
-// Which task runs: what the two orders share, and where they differ.
-use crate::tests::made::pair;
-use crate::tests::made::plain;
-use art::AnswerDebug;
-use art::AnswerPartialEq;
-use art::Order;
-use art::RefusalDebug;
-use art::RefusalPartialEq;
-use art::Status;
-use kernel::init_kernel;
-use std::test::*;
-use store::Store;
+// Which task runs: what the orders share, and where they differ.
+use crate::tests::script::BLOCKED;
+use crate::tests::script::Call;
+use crate::tests::script::Example;
+use crate::tests::script::Line;
+use crate::tests::script::OK;
+use crate::tests::script::PAIR;
 
-// Deadlines rise as levels fall: the tasks run, and end, in the order given.
-pub(crate) fn runs_in_turn<S: Store + Drop, O: Order + Drop>(
-    store: S,
-    order: O,
-    turns: [u8; 3],
-) -> Result<(), Fail> {
-    let mut start = init_kernel(store, order, 7);
-    start.create_task(1, 10, 3)?;
-    start.create_task(2, 20, 2)?;
-    start.create_task(3, 30, 1)?;
-    let mut kernel = start.run();
-    for task in turns {
-        check_eq(kernel.running(), task)?;
-        check_eq(kernel.terminate(), Ok(plain(Status::Ok)))?;
-    }
-    check_eq(kernel.running(), 0)
-}
+// Deadlines rise as levels fall.
+const CROSSED: [(u8, u32, u8); 3] = [(1, 10, 3), (2, 20, 2), (3, 30, 1)];
 
-// Two sleepers are readied by one tick, and the order tells which of them runs.
-pub(crate) fn wakes_in_turn<S: Store + Drop, O: Order + Drop>(
-    store: S,
-    order: O,
-    first: u8,
-) -> Result<(), Fail> {
-    let mut start = init_kernel(store, order, 7);
-    start.create_task(1, 10, 2)?;
-    start.create_task(2, 20, 1)?;
-    let mut kernel = start.run();
-    check_eq(kernel.wait(3), Ok(plain(Status::Blocked)))?;
-    check_eq(kernel.wait(3), Ok(plain(Status::Blocked)))?;
-    check_eq(kernel.set_ticks(2), Ok(plain(Status::Ok)))?;
-    check_eq(kernel.tick(), (2, first))?;
-    check_eq(kernel.collect(&mut []), Ok(plain(Status::Ok)))?;
-    check_eq(kernel.running(), first)
-}
+pub(crate) const EQUALS: [Example; 1] = [
+    // Equally urgent tasks: by a tick the smaller number in front, otherwise the later behind.
+    Example {
+        name: "equally urgent",
+        first: 7,
+        tasks: &[(7, 4294967295, 31), (3, 4294967295, 31)],
+        lines: &[
+            Line::Running(7),
+            Line::Call(Call::SetDeadline(4294967295), OK),
+            Line::Running(3),
+            Line::Call(Call::Wait(0), BLOCKED),
+            Line::Call(Call::Wait(0), BLOCKED),
+            Line::Running(0),
+            Line::Tick(2, 3),
+            Line::Call(Call::Collect, OK),
+            Line::Call(Call::CreateTask(1, 4294967295, 31), OK),
+            Line::Call(Call::Terminate, OK),
+            Line::Running(7),
+        ],
+        counts: [0, 0, 0, 0, 0],
+    },
+];
 
-// A new deadline moves a task under the deadline order alone.
-pub(crate) fn new_deadline<S: Store + Drop, O: Order + Drop>(
-    store: S,
-    order: O,
-    next: u8,
-) -> Result<(), Fail> {
-    let mut kernel = pair(store, order)?;
-    check_eq(kernel.deadline(), 10)?;
-    check_eq(kernel.set_deadline(21), Ok(plain(Status::Ok)))?;
-    check_eq(kernel.running(), next)?;
-    check_eq(kernel.terminate(), Ok(plain(Status::Ok)))?;
-    check_eq(kernel.terminate(), Ok(plain(Status::Ok)))?;
-    check_eq(kernel.deadline(), 4294967295)
-}
+pub(crate) const DEADLINE_TURNS: [Example; 3] = [
+    // The smaller deadline runs first, whatever the levels.
+    Example {
+        name: "smaller deadline",
+        first: 7,
+        tasks: &CROSSED,
+        lines: &[
+            Line::Running(1),
+            Line::Call(Call::Terminate, OK),
+            Line::Running(2),
+            Line::Call(Call::Terminate, OK),
+            Line::Running(3),
+            Line::Call(Call::Terminate, OK),
+            Line::Running(0),
+        ],
+        counts: [0, 0, 0, 0, 0],
+    },
+    // Sleepers are readied by one tick, and the most urgent runs.
+    Example {
+        name: "smaller deadline, readied",
+        first: 7,
+        tasks: &CROSSED,
+        lines: &[
+            Line::Call(Call::Wait(3), BLOCKED),
+            Line::Call(Call::Wait(3), BLOCKED),
+            Line::Call(Call::Wait(3), BLOCKED),
+            Line::Call(Call::SetTicks(2), OK),
+            Line::Tick(3, 1),
+            Line::Call(Call::Collect, OK),
+            Line::Running(1),
+        ],
+        counts: [0, 0, 0, 0, 0],
+    },
+    // A later deadline lets the other task run, and its own later one the first again.
+    Example {
+        name: "smaller deadline, set",
+        first: 7,
+        tasks: &PAIR,
+        lines: &[
+            Line::Deadline(10),
+            Line::Call(Call::SetDeadline(21), OK),
+            Line::Running(2),
+            Line::Call(Call::SetDeadline(22), OK),
+            Line::Running(1),
+            Line::Deadline(21),
+        ],
+        counts: [0, 0, 0, 0, 0],
+    },
+];
 
-// Equally urgent tasks: the smaller number in front after a tick, and a set deadline goes behind.
-pub(crate) fn equally_urgent<S: Store + Drop, O: Order + Drop>(
-    store: S,
-    order: O,
-) -> Result<(), Fail> {
-    let mut start = init_kernel(store, order, 7);
-    start.create_task(7, 4294967295, 31)?;
-    start.create_task(3, 4294967295, 31)?;
-    let mut kernel = start.run();
-    check_eq(kernel.running(), 7)?;
-    check_eq(kernel.set_deadline(4294967295), Ok(plain(Status::Ok)))?;
-    check_eq(kernel.running(), 3)?;
-    check_eq(kernel.wait(0), Ok(plain(Status::Blocked)))?;
-    check_eq(kernel.wait(0), Ok(plain(Status::Blocked)))?;
-    check_eq(kernel.tick(), (2, 3))?;
-    check_eq(kernel.collect(&mut []), Ok(plain(Status::Ok)))?;
-    check_eq(kernel.create_task(1, 4294967295, 31), Ok(plain(Status::Ok)))?;
-    check_eq(kernel.terminate(), Ok(plain(Status::Ok)))?;
-    check_eq(kernel.running(), 7)
-}
+pub(crate) const LEVEL_TURNS: [Example; 3] = [
+    // The smaller level runs first, whatever the deadlines.
+    Example {
+        name: "smaller level",
+        first: 7,
+        tasks: &CROSSED,
+        lines: &[
+            Line::Running(3),
+            Line::Call(Call::Terminate, OK),
+            Line::Running(2),
+            Line::Call(Call::Terminate, OK),
+            Line::Running(1),
+            Line::Call(Call::Terminate, OK),
+            Line::Running(0),
+        ],
+        counts: [0, 0, 0, 0, 0],
+    },
+    // Sleepers are readied by one tick, and the most urgent runs.
+    Example {
+        name: "smaller level, readied",
+        first: 7,
+        tasks: &CROSSED,
+        lines: &[
+            Line::Call(Call::Wait(3), BLOCKED),
+            Line::Call(Call::Wait(3), BLOCKED),
+            Line::Call(Call::Wait(3), BLOCKED),
+            Line::Call(Call::SetTicks(2), OK),
+            Line::Tick(3, 3),
+            Line::Call(Call::Collect, OK),
+            Line::Running(3),
+        ],
+        counts: [0, 0, 0, 0, 0],
+    },
+    // A new deadline is kept, and the smaller level runs on.
+    Example {
+        name: "smaller level, set",
+        first: 7,
+        tasks: &PAIR,
+        lines: &[
+            Line::Deadline(10),
+            Line::Call(Call::SetDeadline(21), OK),
+            Line::Running(1),
+            Line::Call(Call::SetDeadline(22), OK),
+            Line::Running(1),
+            Line::Deadline(22),
+        ],
+        counts: [0, 0, 0, 0, 0],
+    },
+];
