@@ -92,7 +92,7 @@ impl<S: Store, O: Order> Kernel<S, O> {
     pub fn wait(&mut self, ticks: u32) -> Result<Answer, Refusal>
         ensures { λ r. ⌜ Takes S·Store O·Order (Wait ticks) (now (self .entry) .engine) (Answered (outcome r)) [] (now (self .exit) .engine) ⌝ }
     {
-        task_calls::wait(&mut self.engine, ticks)
+        time_calls::wait(&mut self.engine, ticks)
     }
 
     // Gives the running task the answer due, and ends the debt.
@@ -106,42 +106,42 @@ impl<S: Store, O: Order> Kernel<S, O> {
     pub fn set_deadline(&mut self, deadline: u32) -> Result<Answer, Refusal>
         ensures { λ r. ⌜ Takes S·Store O·Order (SetDeadline deadline) (now (self .entry) .engine) (Answered (outcome r)) [] (now (self .exit) .engine) ⌝ }
     {
-        task_calls::set_deadline(&mut self.engine, deadline)
+        time_calls::set_deadline(&mut self.engine, deadline)
     }
 
     // Sets the counter alone.
     pub fn set_ticks(&mut self, ticks: u32) -> Result<Answer, Refusal>
         ensures { λ r. ⌜ Takes S·Store O·Order (SetTicks ticks) (now (self .entry) .engine) (Answered (outcome r)) [] (now (self .exit) .engine) ⌝ }
     {
-        task_calls::set_ticks(&mut self.engine, ticks)
+        time_calls::set_ticks(&mut self.engine, ticks)
     }
 
     // The counter.
     pub fn ticks(&self) -> u32
         ensures { λ r. ⌜ Takes S·Store O·Order Ticks (now (self .entry) .engine) (Number r) [] (now (self .entry) .engine) ⌝ }
     {
-        task_calls::ticks(&self.engine)
+        time_calls::ticks(&self.engine)
     }
 
     // The running task's deadline.
     pub fn deadline(&self) -> u32
         ensures { λ r. ⌜ Takes S·Store O·Order Deadline (now (self .entry) .engine) (Number r) [] (now (self .entry) .engine) ⌝ }
     {
-        task_calls::deadline(&self.engine)
+        time_calls::deadline(&self.engine)
     }
 
     // The running task's number.
     pub fn running(&self) -> TaskNumber
         ensures { λ r. ⌜ Takes S·Store O·Order Running (now (self .entry) .engine) (Number r) [] (now (self .entry) .engine) ⌝ }
     {
-        task_calls::running(&self.engine)
+        time_calls::running(&self.engine)
     }
 
     // The counter rises by 1, and every task is visited; answers how many were readied, and who runs.
     pub fn tick(&mut self) -> (usize, TaskNumber)
         ensures { λ r. ⌜ Takes S·Store O·Order Tick (now (self .entry) .engine) (Ticked (r .0) (r .1)) [] (now (self .exit) .engine) ⌝ }
     {
-        task_calls::tick(&mut self.engine)
+        time_calls::tick(&mut self.engine)
     }
 }
 
@@ -150,6 +150,6 @@ impl<S: Store + Drop, O: Order + Drop> Kernel<S, O> {
     pub fn close(self) -> Counts
         ensures { λ r. ⌜ Takes S·Store O·Order Close (self .engine) (Counted r) [] (self .engine) ⌝ }
     {
-        task_calls::close(&self.engine)
+        time_calls::close(&self.engine)
     }
 }

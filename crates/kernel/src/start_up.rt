@@ -18,7 +18,7 @@ pub fn init_kernel<S: Store, O: Order>(store: S, order: O, first: u32) -> StartU
     ensures { λ r. ⌜ Begins S·Store O·Order first (r .engine) ⌝ }
 {
     StartUp {
-        engine: task_calls::init(store, order, first),
+        engine: time_calls::init(store, order, first),
     }
 }
 
@@ -52,7 +52,7 @@ impl<S: Store, O: Order> StartUp<S, O> {
         ensures { λ r. ⌜ Takes S·Store O·Order Run (self .engine) Silent [] (r .engine) ⌝ }
     {
         let StartUp { mut engine } = self;
-        task_calls::run(&mut engine);
+        time_calls::run(&mut engine);
         Kernel { engine }
     }
 }
