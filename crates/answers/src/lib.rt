@@ -1,4 +1,6 @@
 // What the kernel's calls answer, the five counts, and the limits of tasks and mailboxes.
+#![tactic(auto)]
+
 mod answer;
 mod limits;
 

@@ -15,7 +15,7 @@ use Rattle.art.specs.declared.task.Due.TheVariants.{Sent, Given, Plain}
 use Rattle.art.specs.declared.task.Event.TheVariants.{HandOver, Withdrawal, Tick}
 use Rattle.art.specs.declared.task.Message.{Message}
 use Rattle.art.specs.declared.task.Task.{Task}
-use Rattle.art.specs.State.{Kind, Mailbox, State, top, last_task, running, with_counter, with_task, with_mailbox, with_ready, with_counts}
+use Rattle.art.specs.State.{Kind, State, top, last_task, running, with_counter, with_task, with_mailbox, with_ready, with_counts}
 use Rattle.art.specs.Verbs.{due_of, with_deadline, removed, block, settle, enter, wake, mailbox_at, edit_mailbox, oldest, queue, join_receivers, leave_oldest, leave_receivers, is_empty, fills, other_mode, accept, release, written, take_out, withdraw, wake_sender, choose}
 
 -- what a line answers: a call's answer or refusal, a number, what a tick did, the counts, or nothing

@@ -1,6 +1,8 @@
 // The interface of the kernel: what its calls answer, why they refuse, and the orders of urgency.
 // Answers and limits are those of crate `answers`, refusals those of crate `refusals`.
 // The rules that every call keeps are in specs/: State, Verbs, Rules and Record.
+#![tactic(auto)]
+
 mod order;
 mod task;
 

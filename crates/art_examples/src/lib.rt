@@ -1,4 +1,6 @@
 // Examples of the rules: the edges as theorems, and the printed forms as tests.
+#![tactic(auto)]
+
 ghost use Rattle.art_examples.specs.Edges.{Edges};
 
 // Every edge stands, by the rules of the crate `art`.

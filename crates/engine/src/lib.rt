@@ -1,5 +1,6 @@
 // The engine of the kernel: its tables, and what every call reads of them or does with tasks, as the rules have it.
 // Its functions may ask something of their callers; the kernel's calls, above it, ask nothing.
+#![tactic(auto)]
 
 mod due;
 mod forms;

@@ -1,4 +1,6 @@
 // A list of at most N items in a fixed table, with no heap: the ready list, queues and receivers are made of it.
+#![tactic(auto)]
+
 ghost use Rattle.std.specs.Prelude.{◌≡◌, ℕ, ◌≤◌, length};
 
 mod edits;

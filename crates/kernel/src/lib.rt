@@ -1,5 +1,7 @@
 // The kernel: init_kernel gives a start-up kernel, and run takes it away and gives the running one.
 // Every call carries, by `Takes`, what the rules say of its line; nothing is asked of a caller.
+#![tactic(auto)]
+
 mod kernels;
 mod running;
 mod start_up;

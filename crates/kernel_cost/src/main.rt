@@ -1,5 +1,7 @@
 // Repeats kernel calls, for bench/kernel_cost.sh to count their instructions.
 // Arguments: the kind of store, what each turn does, the tasks, the turns.
+#![tactic(auto)]
+
 use anyhow::{Context, anyhow};
 use art::LevelOrder;
 use kernel::{Kernel, init_kernel};

@@ -1,5 +1,7 @@
 // The law of the record, over the rules of crate `art`: specs/History gathers what has happened on a record,
 // specs/Law says what holds at each of its lines, and proofs/ shows it for every record.
+#![tactic(auto)]
+
 ghost use Rattle.std.specs.Prelude.{ℕ};
 ghost use Rattle.art.specs.Record.{Record};
 ghost use Rattle.art.specs.State.{Kind, OrderRules};

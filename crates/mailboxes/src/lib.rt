@@ -1,4 +1,6 @@
 // The mailboxes of a kernel in a fixed table, with no heap: a row for each number, in use or not.
+#![tactic(auto)]
+
 ghost use Rattle.std.specs.Prelude.{◌≤◌};
 
 use art::{LAST_MAILBOX, MOST_ENTRIES, Message, TaskNumber};

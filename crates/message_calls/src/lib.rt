@@ -1,4 +1,6 @@
 // The calls that pass messages, on an engine: first the refusals, in the order of the table, then what is done.
+#![tactic(auto)]
+
 mod debts;
 mod receives;
 mod sends;

@@ -1,5 +1,7 @@
 // How messages come and go, each step as the rules have it: functions on an engine, which may ask something of
 // their callers.
+#![tactic(auto)]
+
 ghost use Rattle.std.specs.Prelude.{◌≡◌, ◌<◌, ◌≤◌, true, [], is_some, Some, None, Ok};
 ghost use Rattle.refusals.specs.Refusals.{outcome};
 ghost use Rattle.art.specs.State.{running, top};

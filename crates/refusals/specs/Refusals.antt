@@ -1,5 +1,5 @@
 -- What refusals tell, and how they are printed.
-use Rattle.std.specs.Prelude.{ℕ, List, Some, None, Ok, Err, codes, Option, Result}
+use Rattle.std.specs.Prelude.{ℕ, List, None, Ok, Err, codes, Option, Result}
 use Rattle.store.specs.declared.fault.Layer.{Layer}
 use Rattle.store.specs.declared.fault.Layer.TheVariants.{Kernel, Mailbox}
 use Rattle.store.specs.declared.fault.Units.{Units}

@@ -1,4 +1,6 @@
 // Why the kernel refuses a call.
+#![tactic(auto)]
+
 mod refusal;
 
 pub use refusal::Refusal;

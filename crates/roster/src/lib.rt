@@ -1,4 +1,6 @@
 // The tasks by number, and the list of those that are ready, in fixed memory.
+#![tactic(auto)]
+
 ghost use Rattle.std.specs.Prelude.{◌≡◌, ◌≤◌, length};
 ghost use Rattle.fixed.specs.Items.{items};
 ghost use Rattle.roster.specs.Places.{ready_count};

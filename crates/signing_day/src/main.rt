@@ -2,6 +2,8 @@
 // orders and wait until a signer has taken them, each under a deadline; signers give serials; inspectors pass
 // certificates on; a directory clerk publishes them; a clock tells the time. Ticks fall between calls by a
 // fixed pattern. Every line is one call of the kernel by the running task, or a tick.
+#![tactic(auto)]
+
 mod book;
 mod desk;
 mod work;

@@ -1,5 +1,5 @@
 -- Copies into a list and within it, block by block and byte by byte. Assumes nothing.
-use Rattle.std.proofs.Common.{◌≡◌, ℕ, ◌+◌, ◌-◌, ◌<◌, ◌≤◌, min, List, [], ◌++◌, length, get_or, take, drop, set, sym, refl, ap, ◌∙◌, ⊎_elim, add-zero, zero-add, arith, length-drop, get_or-drop, take-add}
+use Rattle.std.proofs.Common.{◌≡◌, ℕ, ◌+◌, ◌-◌, ◌<◌, ◌≤◌, min, List, ◌++◌, length, get_or, take, drop, set, sym, refl, ap, ◌∙◌, ⊎_elim, add-zero, zero-add, arith, length-drop, get_or-drop, take-add}
 use lib.Seq.{paste}
 use Rattle.std.proofs.lemmas.List.{take-take, take_all, drop_all, drop-drop, length-take-le}
 use Rattle.std.proofs.lemmas.List.Edits.{paste_none, paste-paste, paste_more, drop-paste}

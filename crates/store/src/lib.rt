@@ -1,5 +1,7 @@
 // A message store: for each 32-bit message number the bytes held under it, or nothing.
 // Whoever writes a store shows the laws below of it; code above one knows no more than this trait says.
+#![tactic(auto)]
+
 ghost use Rattle.std.specs.Prelude.{◌≡◌, ℕ, ◌+◌, ◌≤◌, List, length as long, Some};
 ghost use Rattle.store.specs.Listing.{Entry, Lists, total};
 ghost use Rattle.store.specs.Meaning.{Allowed, Contents, CostRules, buffer_after_copy, bytes_in, copy_answer, discard_answer, held_after_discard, held_after_put, nothing, put_answer, units_in, used_after_put};

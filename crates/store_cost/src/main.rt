@@ -1,5 +1,7 @@
 // Repeats store calls on messages of 128 bytes, for bench/store_cost.sh to count their instructions.
 // Arguments: the kind of store, what each turn does, the messages held beside, the turns.
+#![tactic(auto)]
+
 use anyhow::{Context, anyhow};
 use packed_store::PackedStore;
 use slot_store::SlotStore;

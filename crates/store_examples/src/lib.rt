@@ -1,4 +1,6 @@
 // Examples of what a store does, run over both kinds by the same functions.
+#![tactic(auto)]
+
 #[cfg(test)]
 mod tests {
     use packed_store::PackedStore;

@@ -1,5 +1,7 @@
 // The calls that make and remove tasks and mailboxes, on an engine: first the refusals, in the order of the table,
 // then what is done.
+#![tactic(auto)]
+
 mod boxes;
 mod tasks;
 

@@ -1,4 +1,6 @@
 // What a tick does.
+#![tactic(auto)]
+
 ghost use Rattle.std.specs.Prelude.{[], ◌≡◌, ◌≤◌};
 ghost use Rattle.art.specs.Verbs.{edit_mailbox, leave_receivers, wake, withdraw};
 ghost use Rattle.art.specs.Rules.{Ticked, numbers_from, tick, tick_task, visited};

@@ -1,4 +1,6 @@
 // How a kernel begins, the calls on time, and what can be asked at any time, on an engine.
+#![tactic(auto)]
+
 mod asks;
 mod clock;
 

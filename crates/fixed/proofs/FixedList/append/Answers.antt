@@ -1,4 +1,4 @@
-use Rattle.std.proofs.Common.{length, arith, length-take}
+use Rattle.std.proofs.Common.{arith, length-take}
 use Rattle.std.proofs.lemmas.List.{take_more_set}
 use Rattle.fixed.proofs.FixedList.append.Goals as goal
 

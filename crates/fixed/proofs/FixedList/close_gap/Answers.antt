@@ -1,4 +1,4 @@
-use Rattle.std.proofs.Common.{length, refl, arith, length-take}
+use Rattle.std.proofs.Common.{arith, length-take}
 use Rattle.fixed.proofs.Moves.{remove_rest, remove_more, remove_end}
 use Rattle.fixed.proofs.FixedList.close_gap.Goals as goal
 

@@ -1,4 +1,4 @@
-use Rattle.std.proofs.Common.{length, refl, arith, length-take}
+use Rattle.std.proofs.Common.{arith, length-take}
 use Rattle.fixed.proofs.Moves.{insert_rest, insert_more, insert_end}
 use Rattle.fixed.proofs.FixedList.open_gap.Goals as goal
 

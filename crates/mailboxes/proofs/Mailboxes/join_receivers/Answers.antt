@@ -5,8 +5,8 @@ use Rattle.mailboxes.specs.Meaning.{room_for_receiver}
 use Rattle.mailboxes.proofs.Rows.{row_edit, row_room}
 use Rattle.mailboxes.proofs.Mailboxes.join_receivers.Goals as goal
 
-pub join-receivers-requires : goal.join-receivers-requires
-join-receivers-requires c = row_room c.args.self.now.rows c.args.m c.index-self-m.result (omega arith) (omega arith) room_for_receiver (λ z. z) c.requires.room
+pub join_receivers-requires : goal.join_receivers-requires
+join_receivers-requires c = row_room c.args.self.now.rows c.args.m c.index-self-m.result (omega arith) (omega arith) room_for_receiver (λ z. z) c.requires.room
 
 pub returns : goal.returns
 returns c =

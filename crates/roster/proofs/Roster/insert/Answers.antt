@@ -7,8 +7,8 @@ use Rattle.roster.proofs.Roster.insert.Goals as goal
 pub insert-requires : goal.insert-requires
 insert-requires c = let m = count_le c.args.self.now.tasks in (omega arith, (omega arith, omega arith))
 
-pub invariant-of-self : goal.invariant-of-self
-invariant-of-self c =
+pub invariant_of-self : goal.invariant_of-self
+invariant_of-self c =
     let s = c.args.self.now in
     let m = longer (items s.ready) (items c.insert.new.self) _ _ (omega arith) c.insert.ensures in
     (s.whole, (omega arith, tt))

@@ -10,8 +10,8 @@ more c =
     let s = c.args.self.now in
     count_more s.tasks c.write.new.tasks c.args.t (Some c.args.x) (omega arith) c.write.ensures c.requires.before c.requires.after
 
-pub invariant-of-self : goal.invariant-of-self
-invariant-of-self c = let m = more c in (search rules, (omega arith, tt))
+pub invariant_of-self : goal.invariant_of-self
+invariant_of-self c = let m = more c in (search rules, (omega arith, tt))
 
 pub returns : goal.returns
 returns c = let m = more (goal.at.returns c).After-write in record { tasks = search rules; list = search rules; room = omega arith }

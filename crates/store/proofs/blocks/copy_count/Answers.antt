@@ -7,7 +7,7 @@ pub returns : goal.returns
 returns c =
     let to' = c.args.to.now in
     let from' = c.args.from.now in
-    let done = c.copy-blocks-done.result in
+    let done = c.copy_blocks-done.result in
     let count = c.args.count in
-    c.copy-bytes.ensures ∙ ap (λ l. paste l done (drop done from') (count - done)) c.copy-blocks-done.ensures.copies
+    c.copy_bytes.ensures ∙ ap (λ l. paste l done (drop done from') (count - done)) c.copy_blocks-done.ensures.copies
     ∙ front_rest to' from' done count (omega arith) (omega arith) ∙ front_count to' from' count c.requires

@@ -14,11 +14,11 @@ loop-at-preserved c =
     let start = c.args.start in
     let gap = c.args.gap in
     let at' = c.loop-at.at in
-    let block = c.block-at-block.result in
+    let block = c.block_at-block.result in
     let read : block ≡ take 16 (drop (at' + gap) (moved_down d start gap at')) =
-    c.block-at-block.ensures ∙ ap (λ l. take 16 (drop (at' + gap) l)) c.loop-at.invariant.2 in (
+    c.block_at-block.ensures ∙ ap (λ l. take 16 (drop (at' + gap) l)) c.loop-at.invariant.2 in (
       omega arith,
       omega arith,
-      c.write-block.ensures ∙ ap (λ l. paste l at' block 16) c.loop-at.invariant.2
+      c.write_block.ensures ∙ ap (λ l. paste l at' block 16) c.loop-at.invariant.2
           ∙ down_block d start gap at' (omega arith) 16 block (omega arith) read,
     )

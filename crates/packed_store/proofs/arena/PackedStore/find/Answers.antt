@@ -4,21 +4,21 @@ use Rattle.packed_store.specs.Opened.{opened}
 use Rattle.packed_store.proofs.Places.{Walk, within, found_here, walk_on, walk_end}
 use Rattle.packed_store.proofs.arena.PackedStore.find.Goals as goal
 
-pub number-at-requires : goal.number-at-requires
-number-at-requires c = omega (arith, within (opened c.args.self.now) c.loop-at.invariant c.loop-at-test.true)
+pub number_at-requires : goal.number_at-requires
+number_at-requires c = omega (arith, within (opened c.args.self.now) c.loop-at.invariant c.loop-at-test.true)
 
 pub returns-then-number-at-number : goal.returns-then-number-at-number
 returns-then-number-at-number c =
     found_here (opened c.args.self.now) c.loop-at.invariant c.loop-at-test.true (sym c.number-at.ensures ∙ c.if-number-at-number.true)
 
-pub length-at-requires : goal.length-at-requires
-length-at-requires c = omega (arith, within (opened c.args.self.now) c.loop-at.invariant c.loop-at-test.true)
+pub length_at-requires : goal.length_at-requires
+length_at-requires c = omega (arith, within (opened c.args.self.now) c.loop-at.invariant c.loop-at-test.true)
 
-pub overflow-add-at : goal.overflow-add-at
-overflow-add-at c = omega (arith, within (opened c.args.self.now) c.loop-at.invariant c.loop-at-test.true)
+pub overflow_add-at : goal.overflow_add-at
+overflow_add-at c = omega (arith, within (opened c.args.self.now) c.loop-at.invariant c.loop-at-test.true)
 
-pub overflow-add-at-in-loop-at : goal.overflow-add-at-in-loop-at
-overflow-add-at-in-loop-at c = omega (arith, within (opened c.args.self.now) c.loop-at.invariant c.loop-at-test.true)
+pub overflow_add-at-in-loop-at : goal.overflow_add-at-in-loop-at
+overflow_add-at-in-loop-at c = omega (arith, within (opened c.args.self.now) c.loop-at.invariant c.loop-at-test.true)
 
 pub loop-at-preserved : goal.loop-at-preserved
 loop-at-preserved c =

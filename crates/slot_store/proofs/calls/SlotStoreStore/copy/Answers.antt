@@ -9,11 +9,11 @@ use Rattle.slot_store.specs.Rows.{absent, there}
 use Rattle.slot_store.proofs.calls.SlotStoreStore.copy.Goals as goal
 use Rattle.slot_store.proofs.calls.SlotStoreStore.copy.Goals.{After-message-message}
 
-pub returns-in-default : goal.returns-in-default
-returns-in-default c =
+pub returns-in_default : goal.returns-in_default
+returns-in_default c =
     let s = c.args.self.now in
     record {
-      answer = copy_missing (contents s) c.args.number c.args.buffer.now (absent c.args.number s.slots c.in-default.ensures);
+      answer = copy_missing (contents s) c.args.number c.args.buffer.now (absent c.args.number s.slots c.in_default.ensures);
       writes = refl;
     }
 

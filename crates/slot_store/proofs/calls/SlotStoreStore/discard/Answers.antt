@@ -9,10 +9,10 @@ use Rattle.slot_store.specs.Rows.{Less, less, absent, there}
 use Rattle.slot_store.proofs.calls.SlotStoreStore.discard.Goals as goal
 use Rattle.slot_store.proofs.calls.SlotStoreStore.discard.Goals.{After-empty-at}
 
-pub returns-in-default : goal.returns-in-default
-returns-in-default c =
+pub returns-in_default : goal.returns-in_default
+returns-in_default c =
     let s = c.args.self.now in
-    let none = absent c.args.number s.slots c.in-default.ensures in
+    let none = absent c.args.number s.slots c.in_default.ensures in
     record {
       answer = discard_missing (contents s) c.args.number none;
       holds = refl;
@@ -25,11 +25,11 @@ emptied c =
     let s = c.args.self.now in
     less s.slots c.empty-at.new.slots c.in-Some.i c.args.number s.once c.in-Some.ensures c.empty-at.ensures
 
-pub overflow-sub-self : goal.overflow-sub-self
-overflow-sub-self c = omega (arith, (emptied c).count, c.args.self.now.counted)
+pub overflow_sub-self : goal.overflow_sub-self
+overflow_sub-self c = omega (arith, (emptied c).count, c.args.self.now.counted)
 
-pub invariant-of-self : goal.invariant-of-self
-invariant-of-self c =
+pub invariant_of-self : goal.invariant_of-self
+invariant_of-self c =
     let s = c.args.self.now in
     let l = emptied c in
     (l.long ∙ s.whole, (l.once, (omega (arith, l.count, s.counted), tt)))

@@ -19,11 +19,11 @@ returns-then-is-some c =
       takes = refl;
     }
 
-pub returns-in-default : goal.returns-in-default
-returns-in-default c =
+pub returns-in_default : goal.returns-in_default
+returns-in_default c =
     let s = c.args.self.now in
     let none = missing c.args.number s.slots c.find.result c.find.ensures c.if-is-some.ensures in
-    let all = full s.slots c.in-default.ensures in
+    let all = full s.slots c.in_default.ensures in
     record {
       answer = put_full 64 one_unit (contents s) s.used c.args.number c.args.bytes.now (search rules) (search rules)
           (record { wanted = 1; free = 0 }) none (omega (arith, all, s.counted, s.whole)) refl (omega (arith, all, s.counted, s.whole));
@@ -32,8 +32,8 @@ returns-in-default c =
       takes = refl;
     }
 
-pub overflow-add-self : goal.overflow-add-self
-overflow-add-self c = let s = c.args.self.now in omega (arith, bounded s.slots, s.counted, s.whole)
+pub overflow_add-self : goal.overflow_add-self
+overflow_add-self c = let s = c.args.self.now in omega (arith, bounded s.slots, s.counted, s.whole)
 
 -- the slots with the message
 filled : (c : After-fill-at) → More c.args.self.now.slots c.fill-at.new.slots c.args.number c.args.bytes.now
@@ -42,8 +42,8 @@ filled c =
     let none = missing c.args.number s.slots c.find.result c.find.ensures c.if-is-some.ensures in
     more s.slots c.fill-at.new.slots c.in-Some.i c.args.number c.args.bytes.now s.once none c.in-Some.ensures c.fill-at.ensures
 
-pub invariant-of-self : goal.invariant-of-self
-invariant-of-self c =
+pub invariant_of-self : goal.invariant_of-self
+invariant_of-self c =
     let s = c.args.self.now in
     let m = filled c in
     (m.long ∙ s.whole, (m.once, (omega (arith, m.count, s.counted), tt)))

@@ -14,8 +14,8 @@ filled n message bytes some is = rw (ne_eqb (length message) 0 (λ z. omega arit
 block_is : (message block : List ℕ) → length message ≤ 128 → block ≡ take 128 message → block ≡ message
 block_is message block short is = is ∙ take_all 128 message short
 
-pub invariant-of-self : goal.invariant-of-self
-invariant-of-self c =
+pub invariant_of-self : goal.invariant_of-self
+invariant_of-self c =
     let front = c.in-Some.ensures.cases in
     (search rules, (c.requires.short, (ap length front.same ∙ length-take-le 128 c.args.message.now front.enough, tt)))
 
