@@ -4,9 +4,9 @@ use Rattle.art.specs.Verbs.{leave_oldest}
 use Rattle.mailboxes.proofs.Rows.{edit_past, row_edit}
 use Rattle.mailboxes.proofs.Mailboxes.leave_oldest.Goals as goal
 
-pub returns-then-m-le-LAST-MAILBOX : goal.returns-then-m-le-LAST-MAILBOX
-returns-then-m-le-LAST-MAILBOX c =
+pub returns-then-m-le-LAST_MAILBOX : goal.returns-then-m-le-LAST_MAILBOX
+returns-then-m-le-LAST_MAILBOX c =
     row_edit c.args.self.now.rows c.args.m c.index-self-m.result (omega arith) (omega arith) leave_oldest c.leave_oldest.new.self c.leave_oldest.ensures
 
-pub returns-else-m-le-LAST-MAILBOX : goal.returns-else-m-le-LAST-MAILBOX
-returns-else-m-le-LAST-MAILBOX c = edit_past c.args.self.now.rows c.args.m (omega arith) leave_oldest
+pub returns-else-m-le-LAST_MAILBOX : goal.returns-else-m-le-LAST_MAILBOX
+returns-else-m-le-LAST_MAILBOX c = edit_past c.args.self.now.rows c.args.m (omega arith) leave_oldest

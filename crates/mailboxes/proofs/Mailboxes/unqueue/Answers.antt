@@ -4,9 +4,9 @@ use Rattle.art.specs.Verbs.{unqueue}
 use Rattle.mailboxes.proofs.Rows.{edit_past, row_edit}
 use Rattle.mailboxes.proofs.Mailboxes.unqueue.Goals as goal
 
-pub returns-then-m-le-LAST-MAILBOX : goal.returns-then-m-le-LAST-MAILBOX
-returns-then-m-le-LAST-MAILBOX c =
+pub returns-then-m-le-LAST_MAILBOX : goal.returns-then-m-le-LAST_MAILBOX
+returns-then-m-le-LAST_MAILBOX c =
     row_edit c.args.self.now.rows c.args.m c.index-self-m.result (omega arith) (omega arith) (unqueue c.args.n) c.unqueue.new.self c.unqueue.ensures
 
-pub returns-else-m-le-LAST-MAILBOX : goal.returns-else-m-le-LAST-MAILBOX
-returns-else-m-le-LAST-MAILBOX c = edit_past c.args.self.now.rows c.args.m (omega arith) (unqueue c.args.n)
+pub returns-else-m-le-LAST_MAILBOX : goal.returns-else-m-le-LAST_MAILBOX
+returns-else-m-le-LAST_MAILBOX c = edit_past c.args.self.now.rows c.args.m (omega arith) (unqueue c.args.n)

@@ -5,8 +5,8 @@ use Rattle.art.specs.Verbs.{unqueue_oldest}
 use Rattle.mailboxes.proofs.Rows.{edit_past, room_after, row_edit, row_past}
 use Rattle.mailboxes.proofs.Mailboxes.unqueue_oldest.Goals as goal
 
-pub returns-then-m-le-LAST-MAILBOX : goal.returns-then-m-le-LAST-MAILBOX
-returns-then-m-le-LAST-MAILBOX c =
+pub returns-then-m-le-LAST_MAILBOX : goal.returns-then-m-le-LAST_MAILBOX
+returns-then-m-le-LAST_MAILBOX c =
     let rows = c.args.self.now.rows in
     let m = c.args.m in
     record {
@@ -14,8 +14,8 @@ returns-then-m-le-LAST-MAILBOX c =
       room = room_after rows m c.index-self-m.result (omega arith) (omega arith) unqueue_oldest c.unqueue_oldest.new.self c.unqueue_oldest.ensures.change c.unqueue_oldest.ensures.room;
     }
 
-pub returns-else-m-le-LAST-MAILBOX : goal.returns-else-m-le-LAST-MAILBOX
-returns-else-m-le-LAST-MAILBOX c =
+pub returns-else-m-le-LAST_MAILBOX : goal.returns-else-m-le-LAST_MAILBOX
+returns-else-m-le-LAST_MAILBOX c =
     let rows = c.args.self.now.rows in
     record {
       change = edit_past rows c.args.m (omega arith) unqueue_oldest;

@@ -1,7 +1,7 @@
 -- A blank table with task 0, and a list of one.
 use Rattle.std.proofs.Common.{[], ◌∷◌, ◌++◌, replicate, Some, None, ap, ◌∙◌, lit<}
 use mathlib.Core.Path.{fun_ext}
-use Rattle.art.specs.State.{changed, idle_task}
+use Rattle.art.specs.State.{changed}
 use Rattle.art.proofs.Changes.{set_changed, getD_blank}
 use Rattle.roster.proofs.Roster.idle.Goals as goal
 

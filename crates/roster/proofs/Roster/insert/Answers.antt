@@ -11,4 +11,4 @@ pub invariant_of-self : goal.invariant_of-self
 invariant_of-self c =
     let s = c.args.self.now in
     let m = longer (items s.ready) (items c.insert.new.self) _ _ (omega arith) c.insert.ensures in
-    (s.whole, (omega arith, tt))
+    record { whole = s.whole; covered = omega arith }

@@ -7,4 +7,4 @@ pub invariant_of-self : goal.invariant_of-self
 invariant_of-self c =
     let s = c.args.self.now in
     let m = count_less s.tasks c.write.new.tasks c.args.t c.args.x (omega arith) c.write.ensures in
-    (search rules, (omega arith, tt))
+    record { whole = search rules; covered = omega arith }

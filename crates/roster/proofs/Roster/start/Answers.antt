@@ -11,7 +11,7 @@ more c =
     count_more s.tasks c.write.new.tasks c.args.t (Some c.args.x) (omega arith) c.write.ensures c.requires.before c.requires.after
 
 pub invariant_of-self : goal.invariant_of-self
-invariant_of-self c = let m = more c in (search rules, (omega arith, tt))
+invariant_of-self c = let m = more c in record { whole = search rules; covered = omega arith }
 
 pub returns : goal.returns
 returns c = let m = more (goal.at.returns c).After-write in record { tasks = search rules; list = search rules; room = omega arith }

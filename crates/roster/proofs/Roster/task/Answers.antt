@@ -4,8 +4,8 @@ use Rattle.std.proofs.lemmas.List.{get_or_past}
 use Rattle.std.proofs.lemmas.Bool.{false≢true}
 use Rattle.roster.proofs.Roster.task.Goals as goal
 
-pub returns-else-t-le-LAST-TASK : goal.returns-else-t-le-LAST-TASK
-returns-else-t-le-LAST-TASK c = record {
+pub returns-else-t-le-LAST_TASK : goal.returns-else-t-le-LAST_TASK
+returns-else-t-le-LAST_TASK c = record {
   value = sym (get_or_past c.args.self.now.tasks c.args.t None (omega arith));
   below = λ e. absurd (false≢true e);
 }
