@@ -12,7 +12,7 @@ returns-then-passes g c =
     record {
       within = omega arith;
       enters = enter_here k s.tasks t s.ready c.loop-i.i (omega arith)
-          (ap (λ u. eqb u 0 || urgent k (s.tasks t) (s.tasks u)) (sym c.ready-at.ensures) ∙ sym c.passes.ensures ∙ c.if-passes.true) c.loop-i.invariant;
+          (ap (λ u. eqb u 0 || urgent k (s.tasks t) (s.tasks u)) (sym c.ready_at.ensures) ∙ sym c.passes.ensures ∙ c.if-passes.true) c.loop-i.invariant;
     }
 
 pub loop-i-preserved : goal.loop-i-preserved
@@ -21,12 +21,12 @@ loop-i-preserved g c =
     let k = kind_of g.S.Store g.O.Order in
     let t = c.args.t in
     enter_past k s.tasks t s.ready c.loop-i.i (omega arith)
-    (ap (λ u. eqb u 0 || urgent k (s.tasks t) (s.tasks u)) (sym c.ready-at.ensures) ∙ sym c.passes.ensures ∙ c.if-passes.false) c.loop-i.invariant
+    (ap (λ u. eqb u 0 || urgent k (s.tasks t) (s.tasks u)) (sym c.ready_at.ensures) ∙ sym c.passes.ensures ∙ c.if-passes.false) c.loop-i.invariant
 
 pub returns : goal.returns
 returns g c =
     let s = view g.S.Store c.args.self.now in
     record {
       within = omega arith;
-      enters = enter_last (kind_of g.S.Store g.O.Order) s.tasks c.args.t s.ready c.loop-i.i c.ready-len-count.result (omega arith) (omega arith) c.loop-i.invariant;
+      enters = enter_last (kind_of g.S.Store g.O.Order) s.tasks c.args.t s.ready c.loop-i.i c.ready_len-count.result (omega arith) (omega arith) c.loop-i.invariant;
     }
