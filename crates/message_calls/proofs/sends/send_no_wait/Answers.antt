@@ -18,7 +18,7 @@ returns-in-Some-oldest g c =
     let k = kind_of g.S.Store g.O.Order in
     let b = meaning c.in-Some.row.now in
     post_gives k s c.args.mailbox c.args.bytes.now (Some c.in-Some-oldest.message) _ _
-    (to_post k s c.args.mailbox c.args.bytes.now b (Some c.in-Some-oldest.message) (search rules) (search rules) c.in-Some.ensures.value (search rules) (search rules) (search rules) (search rules)) c.post-displacing.ensures
+    (to_post k s c.args.mailbox c.args.bytes.now b (Some c.in-Some-oldest.message) (search rules) (search rules) c.in-Some.ensures.value (search rules) (search rules) (search rules) (search rules)) c.post_displacing.ensures
 
 pub returns-in-None : goal.returns-in-None
 returns-in-None g c =
