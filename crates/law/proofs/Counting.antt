@@ -1,9 +1,8 @@
 -- Sums over lists, and over tables of which one entry changes; counts are such sums.
-use Rattle.std.proofs.Common.{◌≡◌, ℕ, zero, suc, ◌+◌, ◌-◌, ◌<◌, ◌≤◌, Bool, true, false, cond, ◌||◌, eqb, ◌⊎◌, List, [], ◌∷◌, ◌++◌, map, length, Some, None, Option, sym, refl, ap, ◌∙◌, subst, ap₂, inl, inr, ⊎_elim, arith}
+use Rattle.std.proofs.Common.{◌≡◌, ℕ, zero, suc, ◌+◌, ◌-◌, ◌<◌, ◌≤◌, cond, ◌||◌, eqb, List, [], ◌∷◌, ◌++◌, map, length, None, Option, sym, refl, ap, ◌∙◌, subst, ap₂, ⊎_elim, arith}
 use Rattle.std.proofs.lemmas.Bool.{eqb-true, eqb-false, eq-eqb, ne_eqb, cond_both, cases_eq}
-use Rattle.std.proofs.lemmas.Bool.Decides.{nat_tests}
 use Rattle.art.specs.declared.task.Task.{Task}
-use Rattle.art.specs.State.{Kind, Mailbox, changed, last_task}
+use Rattle.art.specs.State.{Kind, Mailbox, changed}
 use Rattle.art.specs.Verbs.{removed, entered, urgent}
 use Rattle.art.specs.Rules.{numbers_from}
 use Rattle.law.specs.History.{of_option}

@@ -1,9 +1,9 @@
 -- Every record is lawful: what is sound is kept by every line, and the law is read off it.
-use Rattle.std.proofs.Common.{◌≡◌, ℕ, ◌+◌, ◌⊎◌, List, [], ◌∷◌, ◌++◌, sym, refl, ap, ◌∙◌, subst, ⊎_elim, arith}
+use Rattle.std.proofs.Common.{◌≡◌, ℕ, [], ◌∷◌, sym, refl, ◌∙◌, subst, ⊎_elim, arith}
 use Rattle.std.specs.List.{AllByRecursion as All}
 use Rattle.art.specs.State.{Kind, OrderRules, State, running}
 use Rattle.art.specs.Rules.{Counted as COUNTED, Number, Ticked}
-use Rattle.art.specs.Record.{Line, Record, SendNoWait, Running, Tick, effect, state}
+use Rattle.art.specs.Record.{Line, Record, effect, state}
 use Rattle.law.specs.History.{History, history, last_reply, with_line}
 use Rattle.law.specs.Law.{Fates, Urgency, ListedAnswers, Lawful, given, queued, refusal_in, stores_own}
 use Rattle.law.proofs.Answers.{keep_answered, first_answered, answers_hold}

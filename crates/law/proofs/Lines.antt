@@ -1,20 +1,17 @@
 -- Each line is a turn, but for a tick, which is one for each task.
-use Rattle.std.proofs.Common.{◌≡◌, ℕ, zero, suc, ◌+◌, ◌-◌, ◌<◌, ◌≤◌, Bool, true, false, cond, not, ◌&&◌, ◌||◌, eqb, ltb, leb, ◌⊎◌, List, [], ◌∷◌, ◌++◌, length, drop, is_some, Some, None, Ok, Err, Option, sym, refl, ap, ◌∙◌, subst, ap₂, subst₂, inl, inr, ⊎_elim, append_assoc, arith}
-use Rattle.std.proofs.lemmas.Bool.{eqb-true, eqb-false, ltb-false, or_parts, and_parts, not-false, cond_both, cases_eq}
-use Rattle.store.specs.Meaning.{bytes_in, units_in, put_rows, copy_rows, discard_rows}
-use Rattle.store.specs.Refusal.{Told, Row}
-use Rattle.answers.specs.declared.answer.Status.{Status}
-use Rattle.answers.specs.declared.answer.Status.TheVariants.{Ok as OK, DeadlineReached as DEADLINE_REACHED}
-use Rattle.art.specs.declared.task.Activity.{Activity}
-use Rattle.art.specs.declared.task.Activity.TheVariants.{Ready, Receiving, Sending, Asleep}
+use Rattle.std.proofs.Common.{◌≡◌, ℕ, ◌+◌, ◌-◌, Bool, true, false, cond, not, ◌||◌, eqb, ltb, ◌⊎◌, List, [], ◌∷◌, ◌++◌, length, drop, is_some, Some, None, Ok, Option, sym, refl, ap, ◌∙◌, subst, subst₂, inl, inr, ⊎_elim, arith}
+use Rattle.std.proofs.lemmas.Bool.{eqb-true, eqb-false, ltb-false, or_parts, and_parts, not-false}
+use Rattle.store.specs.Meaning.{bytes_in, units_in, put_rows, discard_rows}
+use Rattle.answers.specs.declared.answer.Status.TheVariants.{Ok as OK}
+use Rattle.art.specs.declared.task.Activity.TheVariants.{Receiving, Sending, Asleep}
 use Rattle.art.specs.declared.task.Due.{Due}
 use Rattle.art.specs.declared.task.Due.TheVariants.{Sent, Given, Plain}
 use Rattle.art.specs.declared.task.Event.{Event}
-use Rattle.art.specs.declared.task.Event.TheVariants.{HandOver, Withdrawal, Tick as TICK}
+use Rattle.art.specs.declared.task.Event.TheVariants.{HandOver}
 use Rattle.art.specs.declared.task.Message.{Message}
 use Rattle.art.specs.declared.task.Task.{Task}
-use Rattle.answers.specs.Counts.{count_handed_over, count_displaced, count_withdrawn}
-use Rattle.art.specs.State.{Kind, Mailbox, State, top, last_task, running, changed, with_task, with_mailbox, with_ready, with_counts, with_counter}
+use Rattle.answers.specs.Counts.{count_handed_over, count_displaced}
+use Rattle.art.specs.State.{Kind, Mailbox, State, top, last_task, running, changed, with_task, with_mailbox, with_ready, with_counts}
 use Rattle.art.specs.Verbs as verbs
 use Rattle.art.specs.Verbs.{due_of, due_after, doing, with_deadline, removed, enter, rouse, wake, wake_task, wakes, edited, edit_mailbox, unqueue_oldest, leave_oldest, leave_receivers, join_receivers, queue, unqueue, is_empty, mailbox_in, mailbox_at, oldest, other_mode, release, accept, with_messages, with_receivers, take_out, wake_sender, choose, others}
 use Rattle.art.specs.Rules as rules
@@ -22,10 +19,10 @@ use Rattle.art.specs.Rules.{Effect, Reply, Answered, accepted, arrive, bringing,
 use Rattle.art.specs.Record.{Line, CreateTask, CreateMailbox, Run, Terminate, RemoveMailbox, SendWait, SendNoWait, ReceiveWait, ReceiveNoWait, Wait, Collect, SetDeadline, SetTicks, Ticks, Deadline, Running, Tick, Close, effect}
 use Rattle.law.specs.History as past
 use Rattle.law.specs.History.{Created, Ended, History, deliveries, latest, notices, of_answer, of_option, waited_till, waits_with, with_line}
-use Rattle.law.proofs.Counting.{changed_same, changed_other}
+use Rattle.law.proofs.Counting.{changed_same}
 use Rattle.law.proofs.Rows.{Clear, tabled, clear_parts, none_from, some_unless_none, nil_from}
 use Rattle.law.proofs.Sound.{Sound}
-use Rattle.law.proofs.Known.{runs, sender_waits, receiver_waits, waits_at_receivers, waits_at_senders}
+use Rattle.law.proofs.Known.{runs, sender_waits, receiver_waits}
 use Rattle.law.proofs.Turn
 
 -- The first of a list, and the answer due to a task

@@ -1,20 +1,18 @@
 -- What holds at each state that a kernel comes through, in the midst of a tick too, with what has happened by then.
-use Rattle.std.proofs.Common.{◌≡◌, ℕ, ◌+◌, ◌<◌, ◌≤◌, Bool, true, false, cond, ◌||◌, eqb, ◌⊎◌, List, [], ◌∷◌, ◌++◌, map, length, is_some, Some, None, Option}
+use Rattle.std.proofs.Common.{◌≡◌, ℕ, ◌+◌, ◌≤◌, Bool, false, cond, ◌||◌, eqb, ◌⊎◌, List, [], ◌∷◌, ◌++◌, map, length, is_some, Some, None, Option}
 use mathlib.Core.List.{Sublist}
 use Rattle.std.specs.List.{ContainsAt as Has, AllByRecursion as All}
-use Rattle.store.specs.Meaning.{Contents, units_in}
-use Rattle.answers.specs.declared.answer.Counts.{Counts}
+use Rattle.store.specs.Meaning.{units_in}
 use Rattle.answers.specs.declared.answer.Status.{Status}
 use Rattle.art.specs.declared.task.Activity.{Activity}
 use Rattle.art.specs.declared.task.Activity.TheVariants.{Ready, Receiving, Sending, Asleep}
-use Rattle.art.specs.declared.task.Due.{Due}
-use Rattle.art.specs.declared.task.Due.TheVariants.{Sent, Given, Plain}
+use Rattle.art.specs.declared.task.Due.TheVariants.{Sent, Given}
 use Rattle.art.specs.declared.task.Message.{Message}
 use Rattle.art.specs.declared.task.Task.{Task}
 use Rattle.art.specs.State.{Kind, Mailbox, State, top}
 use Rattle.art.specs.Verbs.{due_of, urgent}
-use Rattle.law.specs.History.{Acceptance, HandOver, Notice, Life, History, of_option}
-use Rattle.law.specs.Law.{count, sum_of, each, of_mailboxes, of_tasks, sender_in, given_by, told_by, is_ok, is_deadline_reached, accepted, handed_over, brought, told, accepted_at, handed_over_at, living, holds, queued, given, due, AsSent, SentBy}
+use Rattle.law.specs.History.{Acceptance, HandOver, Life, History, of_option}
+use Rattle.law.specs.Law.{count, sum_of, of_mailboxes, of_tasks, given_by, told_by, is_ok, is_deadline_reached, accepted, handed_over, brought, told, accepted_at, handed_over_at, living, holds, queued, given, AsSent, SentBy}
 
 abbrev pub Tasks : Type 0
 Tasks = ℕ → Option Task

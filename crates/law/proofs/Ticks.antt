@@ -11,7 +11,7 @@ use Rattle.art.specs.declared.task.Event.{Event}
 use Rattle.art.specs.declared.task.Event.TheVariants.{Withdrawal, Tick as TICK}
 use Rattle.art.specs.declared.task.Task.{Task}
 use Rattle.answers.specs.Counts.{count_withdrawn}
-use Rattle.art.specs.State.{Kind, State, changed, last_task, top, with_counter, with_counts, with_mailbox}
+use Rattle.art.specs.State.{Kind, State, last_task, top, with_counter, with_counts, with_mailbox}
 use Rattle.art.specs.Verbs.{choose, due_after, edit_mailbox, edited, is_empty, leave_receivers, release, rouse, unqueue, wake, wake_task, withdraw}
 use Rattle.art.specs.Rules.{numbers_from, tick_task, ticked, visited}
 use Rattle.art.specs.Record.{Tick, effect}

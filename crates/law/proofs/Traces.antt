@@ -1,5 +1,5 @@
 -- Each message that is queued, given, due, told of, held or brought is traced to its acceptance, by turns.
-use Rattle.std.proofs.Common.{◌≡◌, ℕ, zero, suc, ◌+◌, ◌<◌, ◌≤◌, cond, eqb, ◌⊎◌, List, [], ◌∷◌, ◌++◌, map, length, get_or, drop, Some, None, Option, sym, refl, ap, ◌∙◌, subst, inl, inr, ⊎_elim, arith}
+use Rattle.std.proofs.Common.{◌≡◌, ℕ, ◌≤◌, cond, eqb, List, [], ◌∷◌, ◌++◌, length, drop, Some, None, Option, sym, refl, ap, ◌∙◌, subst, arith}
 use Rattle.std.specs.List.{ContainsAt as Has, AllByRecursion as All}
 use Rattle.std.proofs.ByRecursion.{All-append, All-weaker, All-push, has_append_right}
 use Rattle.std.proofs.lemmas.Bool.{cond_both, eqb-true, eq-eqb}
@@ -15,7 +15,7 @@ use Rattle.art.specs.State.{Kind, Mailbox, State, changed, idle_task, initial, r
 use Rattle.art.specs.Verbs.{due_of, join_receivers, leave_receivers, unqueue, unqueued, with_messages, with_receivers}
 use Rattle.law.specs.History.{Acceptance, HandOver, Notice, Delivery, History, no_history, notice, of_option}
 use Rattle.law.specs.Law.{count, accepted, AsSent, Bytes, SentBy}
-use Rattle.law.proofs.Counting.{one_self, changed_both}
+use Rattle.law.proofs.Counting.{changed_both}
 use Rattle.law.proofs.Turn.{acting, answered, hurried, created, with_accepted, with_handed_over, with_withdrawn, with_displaced, with_told, with_brought, At, Oldest}
 use Rattle.law.proofs.Turn.{Turn, stay, clock, create, finish, sleep, hurry, open_box, close_box, tell, tell_plain, fetch, await}
 use Rattle.law.proofs.Turn.{take_plain, take_wake, queue_plain, queue_over, queue_wait, hand, waken, give_up, withdraw}

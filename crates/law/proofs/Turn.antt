@@ -1,20 +1,18 @@
 -- What a line can do to a state and to what has happened: each accepted call is one turn, and a tick is one for each task.
 use Rattle.std.proofs.Common.{◌≡◌, ℕ, ◌+◌, ◌-◌, ◌<◌, ◌≤◌, List, [], ◌∷◌, ◌++◌, length, drop, Some, None, Option}
-use Rattle.store.specs.Meaning.{units_in}
 use Rattle.answers.specs.declared.answer.Status.{Status}
 use Rattle.answers.specs.declared.answer.Status.TheVariants.{Ok as OK, DeadlineReached as DEADLINE_REACHED}
 use Rattle.art.specs.declared.task.Activity.{Activity}
 use Rattle.art.specs.declared.task.Activity.TheVariants.{Ready, Receiving, Sending, Asleep}
-use Rattle.art.specs.declared.task.Due.{Due}
 use Rattle.art.specs.declared.task.Due.TheVariants.{Sent, Given, Plain}
 use Rattle.art.specs.declared.task.Message.{Message}
 use Rattle.art.specs.declared.task.Task.{Task}
 use Rattle.art.specs.declared.task.Urgency.{Urgency}
 use Rattle.answers.specs.Counts.{count_handed_over, count_withdrawn}
 use Rattle.art.specs.State.{Kind, Mailbox, State, top, last_task, running, with_counter, with_task, with_mailbox, with_ready, with_counts}
-use Rattle.art.specs.Verbs.{accept, enter, join_receivers, leave_receivers, queue, release, removed, rouse, take_out, unqueue, with_messages, with_receivers}
+use Rattle.art.specs.Verbs.{accept, enter, join_receivers, leave_receivers, queue, release, removed, rouse, unqueue, with_messages, with_receivers}
 use Rattle.answers.specs.Counts.{count_displaced}
-use Rattle.law.specs.History.{Life, Created, Ended, Notice, Delivery, History, notice, of_option}
+use Rattle.law.specs.History.{Life, Created, Ended, Notice, History, notice, of_option}
 
 -- Tasks that change
 

@@ -1,9 +1,8 @@
 -- The law of the record: what holds at each line of each record, for every store and every order that keep their rules.
-use Rattle.std.specs.Prelude.{◌≡◌, ℕ, ◌+◌, ◌≤◌, Bool, true, false, cond, ◌||◌, List, [], ◌∷◌, ◌++◌, map, length, drop, is_some, Some, None, Ok, Err, filter, Option, ◌==◌, ◌≢◌, nat_eq}
+use Rattle.std.specs.Prelude.{◌≡◌, ℕ, ◌+◌, ◌≤◌, Bool, true, false, cond, List, [], ◌∷◌, ◌++◌, map, length, drop, is_some, Some, None, Ok, Err, filter, Option, ◌==◌, ◌≢◌, nat_eq}
 use mathlib.Core.List.{Sublist}
 use Rattle.std.specs.List.{ContainsAt as Has, AllByRecursion as All}
 use Rattle.store.specs.Meaning.{units_in}
-use Rattle.answers.specs.declared.answer.Counts.{Counts}
 use Rattle.answers.specs.declared.answer.Status.{Status}
 use Rattle.answers.specs.declared.answer.Status.TheVariants.{Ok as OK, Blocked as BLOCKED, DeadlineReached as DEADLINE_REACHED}
 use Rattle.art.specs.declared.task.Activity.{Activity}
@@ -16,7 +15,7 @@ use Rattle.art.specs.State.{Kind, Mailbox, State, last_task, running}
 use Rattle.art.specs.Verbs.{due_of, fills, mailbox_at, urgent}
 use Rattle.art.specs.Rules.{Reply, Answered, Number, Ticked, Counted, Silent, numbers_from}
 use Rattle.art.specs.Record.{SendNoWait, Running, Tick, Close, Record, effect, state}
-use Rattle.law.specs.History.{Acceptance, HandOver, Notice, Delivery, Life, Created, Ended, History, history, last_reply, of_option}
+use Rattle.law.specs.History.{Acceptance, HandOver, Delivery, Life, Created, Ended, History, history, last_reply, of_option}
 
 -- Counting
 
