@@ -2,8 +2,8 @@
 use Rattle.std.specs.Prelude.{◌≡◌, ℕ, List, [], ◌∷◌, ◌++◌, reverse, replicate, Some, None}
 use Rattle.answers.specs.declared.answer.Status.TheVariants.{Ok as OK, DeadlineReached as DEADLINE_REACHED}
 use Rattle.art.specs.State.{Kind, by_level}
-use Rattle.art.specs.Record.{Line, CreateTask, CreateMailbox, Run, Terminate, SendWait, SendNoWait, ReceiveWait, ReceiveNoWait, Wait, Collect, Tick, state}
-use Rattle.law.specs.History.{Acceptance, HandOver, Notice, Delivery, History, Created, Ended, history}
+use Rattle.art.specs.Record.{Line, CreateTask, CreateMailbox, Run, Terminate, SendWait, SendNoWait, ReceiveWait, ReceiveNoWait, Wait, Collect, Tick}
+use Rattle.law.specs.History.{Acceptance, History, Created, Ended, history}
 
 -- a slot store, under the level order
 abbrev pub slots : Kind
