@@ -2,3 +2,4 @@ pub mod Slots
 pub mod Held
 pub mod Rows
 pub mod First
+pub mod Laws

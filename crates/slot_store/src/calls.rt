@@ -1,12 +1,10 @@
 // The calls of a store, on slots.
 ghost use Rattle.std.specs.Prelude.{◌≡◌};
-ghost use Rattle.std.proofs.Common.{◌∙◌, arith, rules};
 ghost use Rattle.store.specs.Meaning.{held_after_put, nothing, put_answer, used_after_put};
 ghost use Rattle.store.specs.Refusal.{outcome};
-ghost use Rattle.slot_store.specs.Slots.{Takes, one_unit, messages};
+ghost use Rattle.slot_store.specs.Slots.{Takes, one_unit};
 ghost use Rattle.slot_store.specs.Held.{contents};
-ghost use Rattle.slot_store.specs.Rows.{bounded, held_allowed};
-ghost use Rattle.store.proofs.Listed.{tallied};
+ghost use Rattle.slot_store.specs.Laws.{costs, within, numbers, lengths, listed, tally};
 
 use crate::holding::{empty_all, empty_at, fill_at};
 use crate::slot::Slot;
@@ -34,17 +32,17 @@ impl Store for SlotStore {
 
     ghost cost = { one_unit };
 
-    ghost costs = { first_of (Prim.search rules, Prim.grind (arith, Self.row.coded.inj)) };
+    ghost costs = { costs };
 
-    ghost within = { λ s. omega (arith, bounded s.slots, s.counted, s.whole) };
+    ghost within = { within };
 
-    ghost numbers = { λ s n b h. (held_allowed n b s.slots h).0 };
+    ghost numbers = { numbers };
 
-    ghost lengths = { λ s n b h. (held_allowed n b s.slots h).1 };
+    ghost lengths = { lengths };
 
-    ghost listed = { first_of (Prim.search rules, Prim.grind (arith, Self.row.coded.inj)) };
+    ghost listed = { listed };
 
-    ghost tally = { λ s es l. s.counted ∙ tallied one_unit (messages s.slots) s.once es l };
+    ghost tally = { tally };
 
     fn capacity() -> u32 {
         SLOTS as u32

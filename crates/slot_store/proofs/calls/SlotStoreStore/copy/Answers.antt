@@ -38,6 +38,6 @@ returns c =
     let is = found (goal.at.returns c).After-message-message in
     record {
       answer = copy_ok (contents c.args.self.now) c.args.number c.args.buffer.now message (length message) is refl c.if-buffer-message.false;
-      writes = c.copy-front.ensures ∙ front_whole c.args.buffer.now message c.if-buffer-message.false
+      writes = c.copy_front.ensures ∙ front_whole c.args.buffer.now message c.if-buffer-message.false
           ∙ ap (λ o. bytes_in o ++ drop (length (bytes_in o)) c.args.buffer.now) (sym is);
     }

@@ -7,7 +7,7 @@ use Rattle.slot_store.specs.Slots.{one_unit}
 use Rattle.slot_store.specs.Held.{contents}
 use Rattle.slot_store.specs.Rows.{Less, less, absent, there}
 use Rattle.slot_store.proofs.calls.SlotStoreStore.discard.Goals as goal
-use Rattle.slot_store.proofs.calls.SlotStoreStore.discard.Goals.{After-empty-at}
+use Rattle.slot_store.proofs.calls.SlotStoreStore.discard.Goals.{After-empty_at}
 
 pub returns-in_default : goal.returns-in_default
 returns-in_default c =
@@ -20,10 +20,10 @@ returns-in_default c =
     }
 
 -- the slots without the message
-emptied : (c : After-empty-at) → Less c.args.self.now.slots c.empty-at.new.slots c.args.number
+emptied : (c : After-empty_at) → Less c.args.self.now.slots c.empty_at.new.slots c.args.number
 emptied c =
     let s = c.args.self.now in
-    less s.slots c.empty-at.new.slots c.in-Some.i c.args.number s.once c.in-Some.ensures c.empty-at.ensures
+    less s.slots c.empty_at.new.slots c.in-Some.i c.args.number s.once c.in-Some.ensures c.empty_at.ensures
 
 pub overflow_sub-self : goal.overflow_sub-self
 overflow_sub-self c = omega (arith, (emptied c).count, c.args.self.now.counted)
@@ -32,14 +32,14 @@ pub invariant_of-self : goal.invariant_of-self
 invariant_of-self c =
     let s = c.args.self.now in
     let l = emptied c in
-    (l.long ∙ s.whole, (l.once, (omega (arith, l.count, s.counted), tt)))
+    record { whole = l.long ∙ s.whole; once = l.once; counted = omega (arith, l.count, s.counted) }
 
 pub returns : goal.returns
 returns c =
     let s = c.args.self.now in
     let n = c.args.number in
-    let l = emptied (goal.at.returns c).After-empty-at in
-    let is = there s.slots c.in-Some.i c.empty-at.ensures.slot n s.once c.in-Some.ensures in
+    let l = emptied (goal.at.returns c).After-empty_at in
+    let is = there s.slots c.in-Some.i c.empty_at.ensures.slot n s.once c.in-Some.ensures in
     record {
       answer = discard_ok (contents s) n _ is;
       holds = fun_ext l.next;

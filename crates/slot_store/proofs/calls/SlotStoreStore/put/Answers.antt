@@ -6,14 +6,14 @@ use Rattle.slot_store.specs.Slots.{one_unit}
 use Rattle.slot_store.specs.Held.{contents}
 use Rattle.slot_store.specs.Rows.{More, more, present, missing, full, bounded}
 use Rattle.slot_store.proofs.calls.SlotStoreStore.put.Goals as goal
-use Rattle.slot_store.proofs.calls.SlotStoreStore.put.Goals.{After-fill-at}
+use Rattle.slot_store.proofs.calls.SlotStoreStore.put.Goals.{After-fill_at}
 
-pub returns-then-is-some : goal.returns-then-is-some
-returns-then-is-some c =
+pub returns-then-is_some : goal.returns-then-is_some
+returns-then-is_some c =
     let s = c.args.self.now in
     record {
       answer = put_held 64 one_unit (contents s) s.used c.args.number c.args.bytes.now (search rules) (search rules)
-          (present c.args.number s.slots c.find.result s.once c.find.ensures c.if-is-some.ensures);
+          (present c.args.number s.slots c.find.result s.once c.find.ensures c.if-is_some.ensures);
       holds = refl;
       counts = refl;
       takes = refl;
@@ -22,7 +22,7 @@ returns-then-is-some c =
 pub returns-in_default : goal.returns-in_default
 returns-in_default c =
     let s = c.args.self.now in
-    let none = missing c.args.number s.slots c.find.result c.find.ensures c.if-is-some.ensures in
+    let none = missing c.args.number s.slots c.find.result c.find.ensures c.if-is_some.ensures in
     let all = full s.slots c.in_default.ensures in
     record {
       answer = put_full 64 one_unit (contents s) s.used c.args.number c.args.bytes.now (search rules) (search rules)
@@ -36,27 +36,27 @@ pub overflow_add-self : goal.overflow_add-self
 overflow_add-self c = let s = c.args.self.now in omega (arith, bounded s.slots, s.counted, s.whole)
 
 -- the slots with the message
-filled : (c : After-fill-at) → More c.args.self.now.slots c.fill-at.new.slots c.args.number c.args.bytes.now
+filled : (c : After-fill_at) → More c.args.self.now.slots c.fill_at.new.slots c.args.number c.args.bytes.now
 filled c =
     let s = c.args.self.now in
-    let none = missing c.args.number s.slots c.find.result c.find.ensures c.if-is-some.ensures in
-    more s.slots c.fill-at.new.slots c.in-Some.i c.args.number c.args.bytes.now s.once none c.in-Some.ensures c.fill-at.ensures
+    let none = missing c.args.number s.slots c.find.result c.find.ensures c.if-is_some.ensures in
+    more s.slots c.fill_at.new.slots c.in-Some.i c.args.number c.args.bytes.now s.once none c.in-Some.ensures c.fill_at.ensures
 
 pub invariant_of-self : goal.invariant_of-self
 invariant_of-self c =
     let s = c.args.self.now in
     let m = filled c in
-    (m.long ∙ s.whole, (m.once, (omega (arith, m.count, s.counted), tt)))
+    record { whole = m.long ∙ s.whole; once = m.once; counted = omega (arith, m.count, s.counted) }
 
 pub returns : goal.returns
 returns c =
     let s = c.args.self.now in
-    let none = missing c.args.number s.slots c.find.result c.find.ensures c.if-is-some.ensures in
-    let m = filled (goal.at.returns c).After-fill-at in
+    let none = missing c.args.number s.slots c.find.result c.find.ensures c.if-is_some.ensures in
+    let m = filled (goal.at.returns c).After-fill_at in
     record {
       answer = put_ok 64 one_unit (contents s) s.used c.args.number c.args.bytes.now (search rules) (search rules) none
-          (omega (arith, bounded c.fill-at.new.slots, m.count, m.long, s.counted, s.whole));
+          (omega (arith, bounded c.fill_at.new.slots, m.count, m.long, s.counted, s.whole));
       holds = fun_ext m.next;
       counts = refl;
-      takes = record { place = c.in-Some.i; lowest = c.in-Some.ensures; fills = c.fill-at.ensures };
+      takes = record { place = c.in-Some.i; lowest = c.in-Some.ensures; fills = c.fill_at.ensures };
     }

@@ -17,7 +17,7 @@ block_is message block short is = is ∙ take_all 128 message short
 pub invariant_of-self : goal.invariant_of-self
 invariant_of-self c =
     let front = c.in-Some.ensures.cases in
-    (search rules, (c.requires.short, (ap length front.same ∙ length-take-le 128 c.args.message.now front.enough, tt)))
+    record { small = search rules; short = c.requires.short; whole = ap length front.same ∙ length-take-le 128 c.args.message.now front.enough }
 
 pub returns-in-Some : goal.returns-in-Some
 returns-in-Some c =
@@ -30,6 +30,6 @@ pub returns-in-None : goal.returns-in-None
 returns-in-None c =
     let message = c.args.message.now in
     let old = c.args.self.now in
-    let is = c.copy-front.ensures ∙ front_whole old.bytes message (omega (arith, c.requires.short, old.whole)) in
-    filled c.args.number message c.copy-front.new.to c.requires.some
+    let is = c.copy_front.ensures ∙ front_whole old.bytes message (omega (arith, c.requires.short, old.whole)) in
+    filled c.args.number message c.copy_front.new.to c.requires.some
     (ap (take (length message)) is ∙ take_at message (drop (length message) old.bytes) (length message) refl)

@@ -1,0 +1,32 @@
+-- The laws of a store hold for slots.
+use Rattle.std.proofs.Common.{◌≡◌, ℕ, ◌≤◌, List, refl, ◌∙◌, length, Some, arith}
+use Rattle.store.specs.Meaning.{Allowed, CostRules}
+use Rattle.store.specs.Listing.{Entry, Lists, total}
+use Rattle.store.proofs.Listed.{tallied}
+use Rattle.slot_store.specs.declared.table.SlotStore.{SlotStore}
+use Rattle.slot_store.specs.Slots.{one_unit, messages}
+use Rattle.slot_store.specs.Held.{contents}
+use Rattle.slot_store.specs.Rows.{bounded, held_allowed}
+
+pub costs : CostRules 64 one_unit
+costs = record {
+  positive = λ l a. omega arith;
+  rising = λ l m a b h. omega arith;
+  longest = omega arith;
+  bounded = omega arith;
+}
+
+pub within : (s : SlotStore) → s.used ≤ 64
+within s = omega (arith, bounded s.slots, s.counted, s.whole)
+
+pub numbers : (s : SlotStore) (n : ℕ) (b : List ℕ) → contents s n ≡ Some b → n ≤ 4294967295
+numbers s n b h = (held_allowed n b s.slots h).0
+
+pub lengths : (s : SlotStore) (n : ℕ) (b : List ℕ) → contents s n ≡ Some b → Allowed (length b)
+lengths s n b h = (held_allowed n b s.slots h).1
+
+pub listed : (s : SlotStore) → (es : List Entry) × Lists es (contents s)
+listed s = (messages s.slots, record { once = s.once; same = λ n. refl })
+
+pub tally : (s : SlotStore) (es : List Entry) → Lists es (contents s) → s.used ≡ total one_unit es
+tally s es l = s.counted ∙ tallied one_unit (messages s.slots) s.once es l
