@@ -3,3 +3,4 @@ pub mod Inside
 pub mod Stored
 pub mod Packing
 pub mod Opened
+pub mod Laws

@@ -1,12 +1,9 @@
 // The calls of a store, on packed memory.
 ghost use Rattle.std.specs.Prelude.{◌≡◌};
-ghost use Rattle.std.proofs.Common.{◌∙◌, rules, arith};
 ghost use Rattle.store.specs.Meaning.{nothing};
-ghost use Rattle.packed_store.specs.Layout.{units_for, messages};
+ghost use Rattle.packed_store.specs.Layout.{units_for};
 ghost use Rattle.packed_store.specs.Stored.{contents};
-ghost use Rattle.packed_store.specs.Packing.{held_fits, used_total};
-ghost use Rattle.store.proofs.Listed.{tallied};
-ghost use Rattle.packed_store.specs.Opened.{opened};
+ghost use Rattle.packed_store.specs.Laws.{costs, within, numbers, lengths, listed, tally};
 
 use crate::arena::{PackedStore, SIZE};
 use crate::layout::{HEADER, append, remove};
@@ -33,17 +30,17 @@ impl Store for PackedStore {
 
     ghost cost = { units_for };
 
-    ghost costs = { first_of (Prim.search rules, Prim.grind (arith, Self.row.coded.inj)) };
+    ghost costs = { costs };
 
-    ghost within = { first_of (Prim.search rules, Prim.grind (arith, Self.row.coded.inj)) };
+    ghost within = { within };
 
-    ghost numbers = { λ s n b h. (held_fits (messages s.memory s.used) n b s.good h).0 };
+    ghost numbers = { numbers };
 
-    ghost lengths = { λ s n b h. (held_fits (messages s.memory s.used) n b s.good h).1 };
+    ghost lengths = { lengths };
 
-    ghost listed = { first_of (Prim.search rules, Prim.grind (arith, Self.row.coded.inj)) };
+    ghost listed = { listed };
 
-    ghost tally = { λ s es l. used_total (opened s) ∙ tallied units_for (messages s.memory s.used) s.once es l };
+    ghost tally = { tally };
 
     fn capacity() -> u32 {
         SIZE as u32

@@ -7,5 +7,5 @@ use Rattle.packed_store.proofs.layout.remove.Goals as goal
 
 pub returns : goal.returns
 returns c =
-    let packs = less_packs c.requires.sound c.requires.spot c.args.size c.requires.size c.close-gap.ensures c.close-gap.auto.bytes in
+    let packs = less_packs c.requires.sound c.requires.spot c.args.size c.requires.size c.close_gap.ensures c.close_gap.auto.bytes in
     record { sound = sealed packs; holds = ap lookup (messages_are packs) ∙ less_held c.requires.sound c.requires.spot }
