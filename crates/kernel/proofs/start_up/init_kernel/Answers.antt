@@ -1,6 +1,9 @@
-use mathlib.Core.Path.{sym}
-use Rattle.kernel.proofs.Taking.{begins}
+use Rattle.std.proofs.Common.{sym}
+use Rattle.kernel.proofs.Taking.{lawful_from_the_start}
 use Rattle.kernel.proofs.start_up.init_kernel.Goals as goal
 
 pub returns : goal.returns
-returns g c = begins g.S.Store g.O.Order g.met.O.Order.rules _ _ (sym c.init.ensures)
+returns g c = record {
+  begins = sym c.init.ensures;
+  lawful = lawful_from_the_start g.S.Store g.O.Order g.met.O.Order.rules _;
+}

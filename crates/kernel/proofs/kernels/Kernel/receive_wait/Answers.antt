@@ -1,5 +1,8 @@
-use Rattle.kernel.proofs.Taking.{takes}
+use Rattle.kernel.proofs.Taking.{takes, lawful_with}
 use Rattle.kernel.proofs.kernels.Kernel.receive_wait.Goals as goal
 
 pub returns : goal.returns
-returns g c = takes g.S.Store g.O.Order g.met.O.Order.rules _ _ _ _ _ c.receive_wait.ensures
+returns g c = record {
+  takes = takes g.S.Store g.O.Order _ _ _ _ _ c.receive_wait.ensures;
+  lawful = lawful_with g.S.Store g.O.Order g.met.O.Order.rules _ c.args.self.now.engine;
+}
