@@ -1,7 +1,7 @@
 -- The first place that passes a test: a loop finds it, and what an answer says of the list. Assumes nothing.
 use Rattle.std.specs.Prelude.{◌≡◌, ℕ, ◌+◌, ◌<◌, ◌≤◌, Bool, true, false, not, ltb, List, [], ◌∷◌, length, drop, Some, None, nat_lt, slice_index_or, refl}
 use Rattle.std.proofs.Common.{sym, ⊎_elim, one-add, arith}
-use Rattle.std.specs.List.{prefix_len, AllByRecursion as All}
+use Rattle.std.specs.List.{prefix_len, AllByRecursion}
 use Rattle.std.proofs.lemmas.List.Sums.{prefix_len-drop_yes, prefix_len-drop_no, prefix_len-drop_all}
 use Rattle.std.proofs.lemmas.Bool.{lt-ltb, le-ltb, ltb-true, ltb-false, not_from_true, not_from_false, not-false, cases_Bool}
 use Rattle.store.proofs.Listed.{some_not_none}
@@ -16,7 +16,7 @@ leading_stops q (x ∷ xs) d h =
     (λ (f : q x ≡ false). rw f f)
     (cases_Bool (q x))
 
-leading_all : {X : Type 0} (q : X → Bool) (xs : List X) → length xs ≤ prefix_len q xs → All (λ x. q x ≡ true) xs
+leading_all : {X : Type 0} (q : X → Bool) (xs : List X) → length xs ≤ prefix_len q xs → AllByRecursion (λ x. q x ≡ true) xs
 leading_all q [] h = tt
 leading_all q (x ∷ xs) h =
     ⊎_elim
@@ -72,7 +72,7 @@ module _ {X : Type 0} (p : X → Bool) (xs : List X) where
       not-false (p (slice_index_or xs i d)) (rw a.1 at s)
 
   -- what it says that none was found
-  pub none_passes : None ≡ first_place p xs → All (λ x. not (p x) ≡ true) xs
+  pub none_passes : None ≡ first_place p xs → AllByRecursion (λ x. not (p x) ≡ true) xs
   none_passes h =
       ⊎_elim
       (λ (t : ltb failing (length xs) ≡ true). absurd (some_not_none (Some failing) failing refl (sym (rw t at h))))

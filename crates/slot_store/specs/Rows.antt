@@ -1,7 +1,7 @@
 -- What a row of slots holds, and what the change of one slot makes of it. Assumes nothing.
 use Rattle.std.specs.Prelude.{◌≡◌, ℕ, zero, suc, ◌+◌, ◌<◌, ◌≤◌, true, false, not, ◌≢◌, List, [], ◌∷◌, ◌++◌, length, take, drop, is_some, Some, None, Option, ◌==◌, nat_eq, slice_index_or, slice_set, refl}
 use Rattle.std.proofs.Common.{sym, ap, ◌∙◌, ⊎_elim, append_assoc, arith, length-set}
-use Rattle.std.specs.List.{AllByRecursion as All}
+use Rattle.std.specs.List.{AllByRecursion}
 use Rattle.std.proofs.lemmas.List.{flat_map_more, length-take-le, set-get_or, take_more_set}
 use Rattle.std.proofs.lemmas.Bool.{cases_Bool, and_parts, eqb-true, eqb-false, not-true}
 use Rattle.store.specs.Meaning.{Allowed, with, without}
@@ -46,7 +46,7 @@ split_held xs i d n at' =
     split_at xs i d (first_within (holds_number n) xs i at') ∙ rw (by_held n (slice_index_or xs i d) (first_passes (holds_number n) xs i d at'))
 
 -- a number that no slot holds
-absent_all : (n : ℕ) (xs : List Slot) → All (λ x. not (holds_number n x) ≡ true) xs → lookup (messages xs) n ≡ None
+absent_all : (n : ℕ) (xs : List Slot) → AllByRecursion (λ x. not (holds_number n x) ≡ true) xs → lookup (messages xs) n ≡ None
 absent_all n [] h = refl
 absent_all n (x ∷ xs) h =
     ⊎_elim
@@ -84,7 +84,7 @@ bounded (x ∷ xs) =
     (λ (f : is_free x ≡ false). rw f (omega (arith, bounded xs)))
     (cases_Bool (is_free x))
 
-full_all : (xs : List Slot) → All (λ x. not (is_free x) ≡ true) xs → total one_unit (messages xs) ≡ length xs
+full_all : (xs : List Slot) → AllByRecursion (λ x. not (is_free x) ≡ true) xs → total one_unit (messages xs) ≡ length xs
 full_all [] h = refl
 full_all (x ∷ xs) h = rw (not-true (is_free x) h.0) (omega (arith, full_all xs h.1))
 
