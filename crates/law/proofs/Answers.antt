@@ -1,6 +1,6 @@
 -- Each sender that waits is told, or is due to be told, once of what became of its message, by turns.
 use Rattle.std.proofs.Common.{◌≡◌, ℕ, ◌+◌, ◌<◌, ◌≤◌, Bool, true, false, cond, ◌||◌, eqb, List, [], ◌∷◌, ◌++◌, map, is_some, Some, None, filter, Option, sym, refl, ap, ◌∙◌, subst, ⊎_elim, arith}
-use Rattle.std.specs.List.{ContainsAt as Has, AllByRecursion as All}
+use Rattle.std.specs.List.{ContainsAt as Has, AllByRecursion}
 use Rattle.std.proofs.lemmas.Bool.{cond_both, eq-eqb, ne_eqb, cases_eq, cases_lt}
 use Rattle.answers.specs.declared.answer.Status.{Status}
 use Rattle.answers.specs.declared.answer.Status.TheVariants.{Ok as OK, Blocked as BLOCKED, DeadlineReached as DEADLINE_REACHED}
@@ -150,7 +150,7 @@ module _ (kind : Kind) (first : ℕ) (s : State) (h : History) (w : Sound kind f
   waited_oldest : (m : ℕ) (b : Mailbox) (y : Message) (ys : List Message) (bytes : List ℕ) → Oldest s m b y ys bytes → (o : Option ℕ) → y.sender ≡ o
       → member y.number (waited h.accepted) ≡ is_some o
   waited_oldest m b y ys bytes old o e =
-      let q = (subst (All (QueuedAt h m b.size)) old.first (w.traced.of_queued m b old.at.here)).0 in
+      let q = (subst (AllByRecursion (QueuedAt h m b.size)) old.first (w.traced.of_queued m b old.at.here)).0 in
       waited_as q.sending q.was_accepted y.number q.number o (q.sender ∙ e)
 
   -- the next message has met no fate

@@ -1,6 +1,6 @@
 -- Every record is lawful: what is sound is kept by every line, and the law is read off it.
 use Rattle.std.proofs.Common.{◌≡◌, ℕ, [], ◌∷◌, sym, refl, ◌∙◌, subst, ⊎_elim, arith}
-use Rattle.std.specs.List.{AllByRecursion as All}
+use Rattle.std.specs.List.{AllByRecursion}
 use Rattle.art.specs.State.{Kind, OrderRules, State, running}
 use Rattle.art.specs.Rules.{Counted as COUNTED, Number, Ticked}
 use Rattle.art.specs.Record.{Line, Record, effect, state}
@@ -71,7 +71,7 @@ module _ (kind : Kind) (rules : OrderRules kind.before) (n : ℕ) where
     ticked = λ before e. subst (λ i. (k : ℕ) × (last_reply kind n i ≡ Ticked k (running (state kind n i)))) (sym e) (_, refl);
   }
 
-  listed : (r : Record) → All (λ number. refusal_in (last_reply kind n r) ≡ number → ⊥) stores_own
+  listed : (r : Record) → AllByRecursion (λ number. refusal_in (last_reply kind n r) ≡ number → ⊥) stores_own
   listed [] = (λ e. omega arith, (λ e. omega arith, (λ e. omega arith, (λ e. omega arith, tt))))
   listed (l ∷ r) = listed_holds kind n (state kind n r) (history kind n r) (sound r) l
 

@@ -1,6 +1,6 @@
 -- Of the store's refusals a call meets STORE_FULL alone, and a send that displaces a message not even that.
 use Rattle.std.proofs.Common.{◌≡◌, ℕ, zero, suc, ◌+◌, ◌-◌, ◌<◌, ◌≤◌, true, false, cond, not, ◌||◌, eqb, ltb, List, [], ◌∷◌, map, length, take, drop, is_some, Some, None, Option, sym, refl, ap, ◌∙◌, subst, ⊎_elim, arith}
-use Rattle.std.specs.List.{AllByRecursion as All}
+use Rattle.std.specs.List.{AllByRecursion}
 use Rattle.std.proofs.lemmas.Bool.{both_ways, cases_lt, cond_both, eqb-true, le-ltb, leb-true, ltb-false, ltb-true, ne_eqb, not-false, not-true, or_from, true≢false}
 use Rattle.store.specs.Meaning.{Contents, bytes_in, units_in, put_rows, copy_rows}
 use Rattle.store.specs.Refusal.{Row}
@@ -98,7 +98,7 @@ module _ (kind : Kind) (first : ℕ) (s : State) (h : History) (w : Sound kind f
       oldest_held = some_held (s.held y.number) (omega (arith, part (λ x. cond (eqb y.number x) 1 0), count_self y.number [], w.balanced.stored y.number))
 
       oldest_long : length (bytes_in (s.held y.number)) ≡ b.size
-      oldest_long = go (subst (All (QueuedAt h m b.size)) is (w.traced.of_queued m b box.here)).0 (w.traced.of_held y.number (bytes_in (s.held y.number)) oldest_held)
+      oldest_long = go (subst (AllByRecursion (QueuedAt h m b.size)) is (w.traced.of_queued m b box.here)).0 (w.traced.of_held y.number (bytes_in (s.held y.number)) oldest_held)
         where
           go : QueuedAt h m b.size y → SentAs h y.number (bytes_in (s.held y.number)) → length (bytes_in (s.held y.number)) ≡ b.size
           go q r =
@@ -214,8 +214,8 @@ module _ (kind : Kind) (first : ℕ) (s : State) (h : History) (w : Sound kind f
     of_line full Close = low 0 (omega arith)
 
 -- no line is refused with one of the store's own refusals
-pub listed_holds : (kind : Kind) (first : ℕ) (s : State) (h : History) → Sound kind first s h → (l : Line) → All (λ number. refusal_in (effect kind s l).reply ≡ number → ⊥) stores_own
-listed_holds kind first s h w l = of_line kind first s h w (λ k. All (λ number. k ≡ number → ⊥) stores_own) (λ n less. omega arith) (omega arith) l
+pub listed_holds : (kind : Kind) (first : ℕ) (s : State) (h : History) → Sound kind first s h → (l : Line) → AllByRecursion (λ number. refusal_in (effect kind s l).reply ≡ number → ⊥) stores_own
+listed_holds kind first s h w l = of_line kind first s h w (λ k. AllByRecursion (λ number. k ≡ number → ⊥) stores_own) (λ n less. omega arith) (omega arith) l
 
 -- a send that finds its mailbox full of messages is not refused with STORE_FULL
 pub displacing_holds : (kind : Kind) (first : ℕ) (s : State) (h : History) → Sound kind first s h → (m : ℕ) (bytes : List ℕ)

@@ -1,7 +1,7 @@
 -- What holds at each state that a kernel comes through, in the midst of a tick too, with what has happened by then.
 use Rattle.std.proofs.Common.{◌≡◌, ℕ, ◌+◌, ◌≤◌, Bool, false, cond, ◌||◌, eqb, ◌⊎◌, List, [], ◌∷◌, ◌++◌, map, length, is_some, Some, None, Option}
 use mathlib.Core.List.{Sublist}
-use Rattle.std.specs.List.{ContainsAt as Has, AllByRecursion as All}
+use Rattle.std.specs.List.{ContainsAt as Has, AllByRecursion}
 use Rattle.store.specs.Meaning.{units_in}
 use Rattle.answers.specs.declared.answer.Status.{Status}
 use Rattle.art.specs.declared.task.Activity.{Activity}
@@ -175,12 +175,12 @@ pub record SentAs (h : History) (k : ℕ) (bytes : List ℕ) : Type 0 where
   pub carried : sending.bytes ≡ bytes
 
 pub record Traced (s : State) (h : History) : Type 0 where
-  pub of_queued : (m : ℕ) (b : Mailbox) → s.mailboxes m ≡ Some b → All (QueuedAt h m b.size) b.messages
+  pub of_queued : (m : ℕ) (b : Mailbox) → s.mailboxes m ≡ Some b → AllByRecursion (QueuedAt h m b.size) b.messages
   pub of_given : (t k : ℕ) → due_of (s.tasks t) ≡ Some (Given k) → GivenTo h t k
   pub of_due : (t : ℕ) (st : Status) (k : ℕ) → due_of (s.tasks t) ≡ Some (Sent st k) → SentBy h t k
   pub of_held : (k : ℕ) (bytes : List ℕ) → s.held k ≡ Some bytes → SentAs h k bytes
-  pub of_told : All (λ x. SentBy h x.task x.number) h.told
-  pub of_brought : All (AsSent h) h.brought
+  pub of_told : AllByRecursion (λ x. SentBy h x.task x.number) h.told
+  pub of_brought : AllByRecursion (AsSent h) h.brought
 
 -- the numbers of a queue in front of a list, the newest first
 abbrev pub behind : List Message → List ℕ → List ℕ
@@ -208,7 +208,7 @@ pub record Answered (tasks : Tasks) (h : History) : Type 0 where
   pub of_ok : (k : ℕ) → count k (told is_ok h) + count k (all_due is_ok tasks) ≡ met k h.accepted (handed_over h)
   pub of_deadline_reached : (k : ℕ) → count k (told is_deadline_reached h) + count k (all_due is_deadline_reached tasks) ≡ met k h.accepted h.withdrawn
 
--- All of it
+-- AllByRecursion of it
 
 pub record Sound (kind : Kind) (first : ℕ) (s : State) (h : History) : Type 0 where
   pub placed : Placed s.tasks s.mailboxes s.ready

@@ -1,6 +1,6 @@
 -- Each message that is queued, given, due, told of, held or brought is traced to its acceptance, by turns.
 use Rattle.std.proofs.Common.{◌≡◌, ℕ, ◌≤◌, cond, eqb, List, [], ◌∷◌, ◌++◌, length, drop, Some, None, Option, sym, refl, ap, ◌∙◌, subst, arith}
-use Rattle.std.specs.List.{ContainsAt as Has, AllByRecursion as All}
+use Rattle.std.specs.List.{ContainsAt as Has, AllByRecursion}
 use Rattle.std.proofs.ByRecursion.{All-append, All-weaker, All-push, has_append_right}
 use Rattle.std.proofs.lemmas.Bool.{cond_both, eqb-true, eq-eqb}
 use Rattle.store.specs.Meaning.{Contents}
@@ -82,7 +82,7 @@ ToldOf h x = SentBy h x.task x.number
 -- the queue of mailbox m, the answer due of task t, and what is held under the number k
 abbrev Queue : History → ℕ → Option Mailbox → Type 0
 Queue h m None = Unit {0}
-Queue h m (Some b) = All (QueuedAt h m b.size) b.messages
+Queue h m (Some b) = AllByRecursion (QueuedAt h m b.size) b.messages
 
 abbrev Owed : History → ℕ → Option Due → Type 0
 Owed h t None = Unit {0}
@@ -98,8 +98,8 @@ record Traces (h : History) (boxes : Mailboxes) (tasks : Tasks) (held : Contents
   queues : (m : ℕ) → Queue h m (boxes m)
   dues : (t : ℕ) → Owed h t (due_of (tasks t))
   store : (k : ℕ) → Stored h k (held k)
-  notices : All (ToldOf h) told
-  deliveries : All (AsSent h) brought
+  notices : AllByRecursion (ToldOf h) told
+  deliveries : AllByRecursion (AsSent h) brought
 
 -- the traces of the state s, with what is told and brought in h, in the history h'
 abbrev TracesAfter : State → History → History → Type 0
@@ -125,7 +125,7 @@ traces_of s h h' l r = record {
   deliveries = All-weaker _ _ (longer_brought h h' l) h.brought r.of_brought;
 }
   where
-    queue : (m : ℕ) (o : Option Mailbox) → ((b : Mailbox) → o ≡ Some b → All (QueuedAt h m b.size) b.messages) → Queue h' m o
+    queue : (m : ℕ) (o : Option Mailbox) → ((b : Mailbox) → o ≡ Some b → AllByRecursion (QueuedAt h m b.size) b.messages) → Queue h' m o
     queue m None q = tt
     queue m (Some b) q = All-weaker _ _ (longer_queued h h' l m b.size) b.messages (q b refl)
 
@@ -151,7 +151,7 @@ module _ {h : History} {boxes : Mailboxes} {tasks : Tasks} {held : Contents} {to
   put_held : (k : ℕ) (v : Option (List ℕ)) → Stored h k v → Traces h boxes tasks (changed held k v) told brought
   put_held k v q = record { queues = r.queues; dues = r.dues; store = λ n. changed_both (Stored h) held k v q n (λ _. r.store n); notices = r.notices; deliveries = r.deliveries }
 
-  put_told : (xs : List Notice) → All (ToldOf h) xs → Traces h boxes tasks held (xs ++ told) brought
+  put_told : (xs : List Notice) → AllByRecursion (ToldOf h) xs → Traces h boxes tasks held (xs ++ told) brought
   put_told xs q = record { queues = r.queues; dues = r.dues; store = r.store; notices = All-append _ xs told q r.notices; deliveries = r.deliveries }
 
   put_brought : (d : Delivery) → AsSent h d → Traces h boxes tasks held told (d ∷ brought)
@@ -161,29 +161,29 @@ module _ {h : History} {boxes : Mailboxes} {tasks : Tasks} {held : Contents} {to
   in_due : (t : ℕ) (x : Task) (d : Due) → tasks t ≡ Some x → x.due ≡ Some d → Owed h t (Some d)
   in_due t x d e q = subst (Owed h t) (ap due_of e ∙ q) (r.dues t)
 
-  in_queue : (m : ℕ) (b : Mailbox) (ms : List Message) → boxes m ≡ Some b → b.messages ≡ ms → All (QueuedAt h m b.size) ms
-  in_queue m b ms e q = subst (All (QueuedAt h m b.size)) q (subst (Queue h m) e (r.queues m))
+  in_queue : (m : ℕ) (b : Mailbox) (ms : List Message) → boxes m ≡ Some b → b.messages ≡ ms → AllByRecursion (QueuedAt h m b.size) ms
+  in_queue m b ms e q = subst (AllByRecursion (QueuedAt h m b.size)) q (subst (Queue h m) e (r.queues m))
 
 -- What the turns need
 
 unowed : (h : History) (t : ℕ) (o : Option Due) → o ≡ None → Owed h t o
 unowed h t o e = subst (Owed h t) (sym e) tt
 
-all_noticed : (h : History) (t : ℕ) (st : Status) (n : ℕ) → SentBy h t n → All (ToldOf h) (notice t st n)
+all_noticed : (h : History) (t : ℕ) (st : Status) (n : ℕ) → SentBy h t n → AllByRecursion (ToldOf h) (notice t st n)
 all_noticed h t OK n r = (r, tt)
 all_noticed h t BLOCKED n r = tt
 all_noticed h t DEADLINE_REACHED n r = (r, tt)
 
-all_unqueued : (P : Message → Type 0) (n : ℕ) (ms : List Message) → All P ms → All P (unqueued n ms)
+all_unqueued : (P : Message → Type 0) (n : ℕ) (ms : List Message) → AllByRecursion P ms → AllByRecursion P (unqueued n ms)
 all_unqueued P n [] a = tt
-all_unqueued P n (x ∷ xs) a = cond_both (eqb n x.number) xs (x ∷ unqueued n xs) (All P) (λ _. a.1) (λ _. (a.0, all_unqueued P n xs a.1))
+all_unqueued P n (x ∷ xs) a = cond_both (eqb n x.number) xs (x ∷ unqueued n xs) (AllByRecursion P) (λ _. a.1) (λ _. (a.0, all_unqueued P n xs a.1))
 
 -- a queued message with a sender was sent by it
 sent_queued : (h : History) (m size t : ℕ) (y : Message) → QueuedAt h m size y → y.sender ≡ Some t → SentBy h t y.number
 sent_queued h m size t y r e = record { sending = r.sending; was_accepted = r.was_accepted; number = r.number; sender = r.sender ∙ e }
 
 -- a queue that has just one message of task t
-sent_found : (h : History) (m size t n : ℕ) (ms : List Message) → All (QueuedAt h m size) ms → sent_by t ms ≡ n ∷ [] → SentBy h t n
+sent_found : (h : History) (m size t n : ℕ) (ms : List Message) → AllByRecursion (QueuedAt h m size) ms → sent_by t ms ≡ n ∷ [] → SentBy h t n
 sent_found h m size t n [] a e = let z : ◌≡◌ {A = ℕ} 0 1 = cc in absurd (omega arith)
 sent_found h m size t n (y ∷ ys) a e = go y.sender refl e (sent_found h m size t n ys a.1)
   where
@@ -233,16 +233,16 @@ module _ (h : History) (m n : ℕ) (bytes : List ℕ) (sender : Option ℕ) (new
   stored_new = record { sending = new_acceptance m n bytes sender; was_accepted = new; number = refl; carried = refl }
 
   queues_next : {boxes : Mailboxes} {tasks : Tasks} {held : Contents} {told : List Notice} {brought : List Delivery} → Traces h boxes tasks held told brought
-      → (b : Mailbox) (ms : List Message) → length bytes ≡ b.size → All (QueuedAt h m b.size) ms
+      → (b : Mailbox) (ms : List Message) → length bytes ≡ b.size → AllByRecursion (QueuedAt h m b.size) ms
       → Traces h (changed boxes m (Some (with_messages b (ms ++ (record { number = n; sender = sender } ∷ []))))) tasks (changed held n (Some bytes)) told brought
   queues_next r b ms e a = put_queue (put_held r n (Some bytes) stored_new) m (Some _) (All-push (QueuedAt h m b.size) ms _ a
       (record { sending = new_acceptance m n bytes sender; was_accepted = new; mailbox = refl; number = refl; sender = refl; long = e }))
 
   -- if it is handed over at once, its sender is told, if it waits
-  noticed_new : All (ToldOf h) (of_option sender (λ u. notice u OK n))
+  noticed_new : AllByRecursion (ToldOf h) (of_option sender (λ u. notice u OK n))
   noticed_new = go sender new
     where
-      go : (o : Option ℕ) → Has h.accepted (new_acceptance m n bytes o) → All (ToldOf h) (of_option o (λ u. notice u OK n))
+      go : (o : Option ℕ) → Has h.accepted (new_acceptance m n bytes o) → AllByRecursion (ToldOf h) (of_option o (λ u. notice u OK n))
       go None new = tt
       go (Some u) new = (record { sending = new_acceptance m n bytes (Some u); was_accepted = new; number = refl; sender = refl }, tt)
 
@@ -266,7 +266,7 @@ module _ (kind : Kind) (first : ℕ) where
     before_take : TracesAfter s h (with_taken s m y.number bytes buffer h)
     before_take = grown s h _ [] (_ ∷ []) refl refl w
 
-    taken_queue : All (QueuedAt (with_taken s m y.number bytes buffer h) m b.size) (y ∷ ys)
+    taken_queue : AllByRecursion (QueuedAt (with_taken s m y.number bytes buffer h) m b.size) (y ∷ ys)
     taken_queue = in_queue before_take m b (y ∷ ys) o.at.here o.first
 
     taken_given : GivenTo (with_taken s m y.number bytes buffer h) (running s) y.number

@@ -1,7 +1,7 @@
 -- The law of the record: what holds at each line of each record, for every store and every order that keep their rules.
 use Rattle.std.specs.Prelude.{◌≡◌, ℕ, ◌+◌, ◌≤◌, Bool, true, false, cond, List, [], ◌∷◌, ◌++◌, map, length, drop, is_some, Some, None, Ok, Err, filter, Option, ◌==◌, ◌≢◌, nat_eq}
 use mathlib.Core.List.{Sublist}
-use Rattle.std.specs.List.{ContainsAt as Has, AllByRecursion as All}
+use Rattle.std.specs.List.{ContainsAt as Has, AllByRecursion}
 use Rattle.store.specs.Meaning.{units_in}
 use Rattle.answers.specs.declared.answer.Status.{Status}
 use Rattle.answers.specs.declared.answer.Status.TheVariants.{Ok as OK, Blocked as BLOCKED, DeadlineReached as DEADLINE_REACHED}
@@ -146,7 +146,7 @@ pub record AsSent (h : History) (d : Delivery) : Type 0 where
 
 -- each message handed over was brought once, or is still to be collected
 pub record Bytes (s : State) (h : History) : Type 0 where
-  pub as_sent : All (AsSent h) h.brought
+  pub as_sent : AllByRecursion (AsSent h) h.brought
   pub once : (k : ℕ) → count k (handed_over h) ≡ count k (brought h) + count k (given s)
 
 -- task t sent message k and waits for the answer
@@ -161,7 +161,7 @@ pub record Answers (s : State) (h : History) : Type 0 where
   pub ok : (a : Acceptance) → Has h.accepted a → is_some a.sender ≡ true → count a.number (told is_ok h) + count a.number (due is_ok s) ≡ count a.number (handed_over h)
   pub deadline_reached : (a : Acceptance) → Has h.accepted a → is_some a.sender ≡ true → count a.number (told is_deadline_reached h) + count a.number (due is_deadline_reached s) ≡ count a.number h.withdrawn
   pub once : (k : ℕ) → (count k (told is_ok h) + count k (due is_ok s)) + (count k (told is_deadline_reached h) + count k (due is_deadline_reached s)) ≤ 1
-  pub told_to_sender : All (λ x. SentBy h x.task x.number) h.told
+  pub told_to_sender : AllByRecursion (λ x. SentBy h x.task x.number) h.told
   pub due_to_sender : (t : ℕ) (st : Status) (k : ℕ) → due_of (s.tasks t) ≡ Some (Sent st k) → SentBy h t k
 
 -- at how many places task t stands: in the ready list, as a receiver, as a sender, asleep
@@ -197,7 +197,7 @@ holds (Some _) = 1
 
 -- of the store's refusals a call meets STORE_FULL alone, and a send that displaces a message not even that
 pub record ListedAnswers (kind : Kind) (n : ℕ) (r : Record) : Type 0 where
-  pub listed : All (λ number. refusal_in (last_reply kind n r) ≢ number) stores_own
+  pub listed : AllByRecursion (λ number. refusal_in (last_reply kind n r) ≢ number) stores_own
   pub displacing : (before : Record) (m : ℕ) (bytes : List ℕ) → r ≡ SendNoWait m bytes ∷ before → fills (mailbox_at (state kind n before) m) (mailbox_at (state kind n before) m).messages ≡ true → refusal_in (last_reply kind n r) ≢ 20
   -- the store holds exactly what is queued or given, and its units are the sum of their costs
   pub held : (k : ℕ) → holds ((state kind n r).held k) ≡ count k (queued (state kind n r)) + count k (given (state kind n r))
