@@ -1,6 +1,7 @@
 // The kernel: init_kernel gives a start-up kernel, and run takes it away and gives the running one.
-// Every call carries, by `Takes`, what the rules say of its line; nothing is asked of a caller.
-#![tactic(auto)]
+// Every call carries, by `Takes`, what the rules say of its line, and by `LawfulWith` the law of the record with it;
+// nothing is asked of a caller.
+#![tactic(auto, using(crate::proofs::Taking::takes))]
 
 mod kernels;
 mod running;

@@ -1,8 +1,5 @@
-use Rattle.kernel.proofs.Taking.{takes, lawful_with}
+use Rattle.kernel.proofs.Taking.{lawful_with}
 use Rattle.kernel.proofs.kernels.Kernel.close.Goals as goal
 
-pub returns : goal.returns
-returns g c = record {
-  takes = takes g.S.Store g.O.Order _ _ _ _ _ c.close.ensures;
-  lawful = lawful_with g.S.Store g.O.Order g.met.O.Order.rules _ c.args.self.engine;
-}
+pub returns-clause-lawful : goal.returns-clause-lawful
+returns-clause-lawful g c = lawful_with g.S.Store g.O.Order g.met.O.Order.rules _ c.args.self.engine
