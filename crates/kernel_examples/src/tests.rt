@@ -26,80 +26,94 @@ use slot_store::SlotStore;
 use std::process::Abort;
 use std::test::Fail;
 
-fn slots_by_deadline(rt: &impl Abort, examples: &[Example]) -> Result<(), Fail> {
+fn slots_by_deadline(rt: &impl Abort, examples: &[Example]) {
     for example in examples {
-        play(rt, SlotStore::new(), DeadlineOrder, example).note(example.name)?;
+        play(
+            rt,
+            "slots by deadline",
+            SlotStore::new(),
+            DeadlineOrder,
+            example,
+        );
     }
-    Ok(())
 }
 
-fn slots_by_level(rt: &impl Abort, examples: &[Example]) -> Result<(), Fail> {
+fn slots_by_level(rt: &impl Abort, examples: &[Example]) {
     for example in examples {
-        play(rt, SlotStore::new(), LevelOrder, example).note(example.name)?;
+        play(rt, "slots by level", SlotStore::new(), LevelOrder, example);
     }
-    Ok(())
 }
 
-fn packed_by_deadline(rt: &impl Abort, examples: &[Example]) -> Result<(), Fail> {
+fn packed_by_deadline(rt: &impl Abort, examples: &[Example]) {
     for example in examples {
-        play(rt, PackedStore::new(), DeadlineOrder, example).note(example.name)?;
+        play(
+            rt,
+            "packed by deadline",
+            PackedStore::new(),
+            DeadlineOrder,
+            example,
+        );
     }
-    Ok(())
 }
 
-fn packed_by_level(rt: &impl Abort, examples: &[Example]) -> Result<(), Fail> {
+fn packed_by_level(rt: &impl Abort, examples: &[Example]) {
     for example in examples {
-        play(rt, PackedStore::new(), LevelOrder, example).note(example.name)?;
+        play(
+            rt,
+            "packed by level",
+            PackedStore::new(),
+            LevelOrder,
+            example,
+        );
     }
-    Ok(())
 }
 
 // Both stores and both orders.
-fn on_every_kind(rt: &impl Abort, examples: &[Example]) -> Result<(), Fail> {
-    slots_by_deadline(rt, examples)?;
-    slots_by_level(rt, examples)?;
-    packed_by_deadline(rt, examples)?;
-    packed_by_level(rt, examples)
+fn on_every_kind(rt: &impl Abort, examples: &[Example]) {
+    slots_by_deadline(rt, examples);
+    slots_by_level(rt, examples);
+    packed_by_deadline(rt, examples);
+    packed_by_level(rt, examples);
 }
 
 #[test]
-fn senders_that_wait(rt: HostRuntime) -> Result<(), Fail> {
-    on_every_kind(&rt, &SENDERS_WAIT)
+fn senders_that_wait(rt: HostRuntime) {
+    on_every_kind(&rt, &SENDERS_WAIT);
 }
 
 #[test]
-fn senders_that_go_on(rt: HostRuntime) -> Result<(), Fail> {
-    on_every_kind(&rt, &SENDERS_GO_ON)
+fn senders_that_go_on(rt: HostRuntime) {
+    on_every_kind(&rt, &SENDERS_GO_ON);
 }
 
 #[test]
-fn messages_meet_their_fates(rt: HostRuntime) -> Result<(), Fail> {
-    on_every_kind(&rt, &FATES)
+fn messages_meet_their_fates(rt: HostRuntime) {
+    on_every_kind(&rt, &FATES);
 }
 
 #[test]
-fn the_kernel_refuses(rt: HostRuntime) -> Result<(), Fail> {
-    on_every_kind(&rt, &KERNEL_REFUSALS)
+fn the_kernel_refuses(rt: HostRuntime) {
+    on_every_kind(&rt, &KERNEL_REFUSALS);
 }
 
 #[test]
-fn a_mailbox_refuses(rt: HostRuntime) -> Result<(), Fail> {
-    on_every_kind(&rt, &MAILBOX_REFUSALS)
+fn a_mailbox_refuses(rt: HostRuntime) {
+    on_every_kind(&rt, &MAILBOX_REFUSALS);
 }
 
 #[test]
-fn deadlines_are_reached(rt: HostRuntime) -> Result<(), Fail> {
-    on_every_kind(&rt, &DEADLINES)
+fn deadlines_are_reached(rt: HostRuntime) {
+    on_every_kind(&rt, &DEADLINES);
 }
 
 #[test]
-fn sleep_ends(rt: HostRuntime) -> Result<(), Fail> {
-    on_every_kind(&rt, &SLEEPS)
+fn sleep_ends(rt: HostRuntime) {
+    on_every_kind(&rt, &SLEEPS);
 }
 
 #[test]
-fn equally_urgent_tasks_keep_their_turn(rt: HostRuntime) -> Result<(), Fail> {
-    on_every_kind(&rt, &EQUALS)
+fn equally_urgent_tasks_keep_their_turn(rt: HostRuntime) {
+    on_every_kind(&rt, &EQUALS);
 }
 
 #[test]
@@ -111,29 +125,29 @@ fn a_start_up_kernel_refuses(rt: HostRuntime) -> Result<(), Fail> {
 }
 
 #[test]
-fn a_full_slot_store_refuses(rt: HostRuntime) -> Result<(), Fail> {
+fn a_full_slot_store_refuses(rt: HostRuntime) {
     let examples = &SLOTS_FULL;
-    slots_by_deadline(&rt, examples)?;
-    slots_by_level(&rt, examples)
+    slots_by_deadline(&rt, examples);
+    slots_by_level(&rt, examples);
 }
 
 #[test]
-fn a_full_packed_store_refuses(rt: HostRuntime) -> Result<(), Fail> {
+fn a_full_packed_store_refuses(rt: HostRuntime) {
     let examples = &MEMORY_FULL;
-    packed_by_deadline(&rt, examples)?;
-    packed_by_level(&rt, examples)
+    packed_by_deadline(&rt, examples);
+    packed_by_level(&rt, examples);
 }
 
 #[test]
-fn the_smaller_deadline_goes_before(rt: HostRuntime) -> Result<(), Fail> {
+fn the_smaller_deadline_goes_before(rt: HostRuntime) {
     let examples = &DEADLINE_TURNS;
-    slots_by_deadline(&rt, examples)?;
-    packed_by_deadline(&rt, examples)
+    slots_by_deadline(&rt, examples);
+    packed_by_deadline(&rt, examples);
 }
 
 #[test]
-fn the_smaller_level_goes_before(rt: HostRuntime) -> Result<(), Fail> {
+fn the_smaller_level_goes_before(rt: HostRuntime) {
     let examples = &LEVEL_TURNS;
-    slots_by_level(&rt, examples)?;
-    packed_by_level(&rt, examples)
+    slots_by_level(&rt, examples);
+    packed_by_level(&rt, examples);
 }
