@@ -1,5 +1,5 @@
 // What has been certified: a line for each serial that was given.
-use std::alloc::{AllocError, AllocFailed, Global};
+use std::alloc::{AllocError, Global};
 use std::io;
 use std::str::from_utf8;
 
