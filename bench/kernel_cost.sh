@@ -1,7 +1,8 @@
 #!/bin/sh
-# Instructions per turn of kernel calls. Run from the repository's root after `rt check kernel_cost`.
+# Instructions per turn of kernel calls. Run from the repository's root; `rt run` in crates/kernel_cost builds the program
+# first.
 set -eu
-program=target/bin/kernel_cost
+program=crates/kernel_cost/out/kernel_cost
 . bench/instructions.sh
 
 line='%-7s %10s %18s %8s %9s %9s\n'

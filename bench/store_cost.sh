@@ -1,7 +1,8 @@
 #!/bin/sh
-# Instructions per store call on messages of 128 bytes. Run from the repository's root after `rt check store_cost`.
+# Instructions per store call on messages of 128 bytes. Run from the repository's root; `rt run` in crates/store_cost builds
+# the program first.
 set -eu
-program=target/bin/store_cost
+program=crates/store_cost/out/store_cost
 . bench/instructions.sh
 
 line='%-7s %12s %6s %6s %8s %12s %6s\n'

@@ -26,7 +26,8 @@ fn turn_of(word: &str) -> Option<Turn> {
     }
 }
 
-// One turn; whether every call of it was accepted.
+// One turn; whether every call of it was accepted. Never inlined, so that the compiler cannot make one of many turns.
+#[inline(never)]
 fn take_turn<S: Store>(
     store: &mut S,
     turn: Turn,
