@@ -9,25 +9,25 @@ use Rattle.packed_store.specs.Stored.{contents}
 use Rattle.packed_store.specs.Packing.{held_fits, used_total}
 use Rattle.packed_store.specs.Opened.{opened}
 
-pub costs : CostRules 4096 units_for
-costs = record {
+pub costs_hold : CostRules 4096 units_for
+costs_hold = record {
   positive = λ l a. omega arith;
   rising = λ l m a b h. omega arith;
   longest = omega arith;
   bounded = omega arith;
 }
 
-pub within : (s : PackedStore) → s.used ≤ 4096
-within s = s.room
+pub used_within : (s : PackedStore) → s.used ≤ 4096
+used_within s = s.room
 
-pub numbers : (s : PackedStore) (n : ℕ) (b : List ℕ) → contents s n ≡ Some b → n ≤ 4294967295
-numbers s n b h = (held_fits (messages s.memory s.used) n b s.good h).0
+pub numbers_fit : (s : PackedStore) (n : ℕ) (b : List ℕ) → contents s n ≡ Some b → n ≤ 4294967295
+numbers_fit s n b h = (held_fits (messages s.memory s.used) n b s.good h).0
 
-pub lengths : (s : PackedStore) (n : ℕ) (b : List ℕ) → contents s n ≡ Some b → Allowed (length b)
-lengths s n b h = (held_fits (messages s.memory s.used) n b s.good h).1
+pub lengths_allowed : (s : PackedStore) (n : ℕ) (b : List ℕ) → contents s n ≡ Some b → Allowed (length b)
+lengths_allowed s n b h = (held_fits (messages s.memory s.used) n b s.good h).1
 
-pub listed : (s : PackedStore) → (es : List Entry) × Lists es (contents s)
-listed s = (messages s.memory s.used, record { once = s.once; same = λ n. refl })
+pub listing : (s : PackedStore) → (es : List Entry) × Lists es (contents s)
+listing s = (messages s.memory s.used, record { once = s.once; same = λ n. refl })
 
-pub tally : (s : PackedStore) (es : List Entry) → Lists es (contents s) → s.used ≡ total units_for es
-tally s es l = used_total (opened s) ∙ tallied units_for (messages s.memory s.used) s.once es l
+pub used_total_of : (s : PackedStore) (es : List Entry) → Lists es (contents s) → s.used ≡ total units_for es
+used_total_of s es l = used_total (opened s) ∙ tallied units_for (messages s.memory s.used) s.once es l

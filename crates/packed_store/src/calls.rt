@@ -3,7 +3,7 @@ ghost use Rattle.std.specs.Prelude.{◌≡◌};
 ghost use Rattle.store.specs.Meaning.{nothing};
 ghost use Rattle.packed_store.specs.Layout.{units_for};
 ghost use Rattle.packed_store.specs.Stored.{contents};
-ghost use Rattle.packed_store.specs.Laws.{costs, within, numbers, lengths, listed, tally};
+ghost use Rattle.packed_store.specs.Laws.{costs_hold, lengths_allowed, listing, numbers_fit, used_total_of, used_within};
 
 use crate::arena::{PackedStore, SIZE};
 use crate::layout::{HEADER, append, remove};
@@ -30,17 +30,17 @@ impl Store for PackedStore {
 
     ghost cost = { units_for };
 
-    ghost costs = { costs };
+    ghost costs = { costs_hold };
 
-    ghost within = { within };
+    ghost within = { used_within };
 
-    ghost numbers = { numbers };
+    ghost numbers = { numbers_fit };
 
-    ghost lengths = { lengths };
+    ghost lengths = { lengths_allowed };
 
-    ghost listed = { listed };
+    ghost listed = { listing };
 
-    ghost tally = { tally };
+    ghost tally = { used_total_of };
 
     fn capacity() -> u32 {
         SIZE as u32

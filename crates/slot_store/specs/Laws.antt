@@ -8,25 +8,25 @@ use Rattle.slot_store.specs.Slots.{one_unit, messages}
 use Rattle.slot_store.specs.Held.{contents}
 use Rattle.slot_store.specs.Rows.{bounded, held_allowed}
 
-pub costs : CostRules 64 one_unit
-costs = record {
+pub costs_hold : CostRules 64 one_unit
+costs_hold = record {
   positive = λ l a. omega arith;
   rising = λ l m a b h. omega arith;
   longest = omega arith;
   bounded = omega arith;
 }
 
-pub within : (s : SlotStore) → s.used ≤ 64
-within s = omega (arith, bounded s.slots, s.counted, s.whole)
+pub used_within : (s : SlotStore) → s.used ≤ 64
+used_within s = omega (arith, bounded s.slots, s.counted, s.whole)
 
-pub numbers : (s : SlotStore) (n : ℕ) (b : List ℕ) → contents s n ≡ Some b → n ≤ 4294967295
-numbers s n b h = (held_allowed n b s.slots h).0
+pub numbers_fit : (s : SlotStore) (n : ℕ) (b : List ℕ) → contents s n ≡ Some b → n ≤ 4294967295
+numbers_fit s n b h = (held_allowed n b s.slots h).0
 
-pub lengths : (s : SlotStore) (n : ℕ) (b : List ℕ) → contents s n ≡ Some b → Allowed (length b)
-lengths s n b h = (held_allowed n b s.slots h).1
+pub lengths_allowed : (s : SlotStore) (n : ℕ) (b : List ℕ) → contents s n ≡ Some b → Allowed (length b)
+lengths_allowed s n b h = (held_allowed n b s.slots h).1
 
-pub listed : (s : SlotStore) → (es : List Entry) × Lists es (contents s)
-listed s = (messages s.slots, record { once = s.once; same = λ n. refl })
+pub listing : (s : SlotStore) → (es : List Entry) × Lists es (contents s)
+listing s = (messages s.slots, record { once = s.once; same = λ n. refl })
 
-pub tally : (s : SlotStore) (es : List Entry) → Lists es (contents s) → s.used ≡ total one_unit es
-tally s es l = s.counted ∙ tallied one_unit (messages s.slots) s.once es l
+pub used_total_of : (s : SlotStore) (es : List Entry) → Lists es (contents s) → s.used ≡ total one_unit es
+used_total_of s es l = s.counted ∙ tallied one_unit (messages s.slots) s.once es l

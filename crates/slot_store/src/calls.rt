@@ -4,7 +4,7 @@ ghost use Rattle.store.specs.Meaning.{held_after_put, nothing, put_answer, used_
 ghost use Rattle.store.specs.Refusal.{outcome};
 ghost use Rattle.slot_store.specs.Slots.{Takes, one_unit};
 ghost use Rattle.slot_store.specs.Held.{contents};
-ghost use Rattle.slot_store.specs.Laws.{costs, within, numbers, lengths, listed, tally};
+ghost use Rattle.slot_store.specs.Laws.{costs_hold, lengths_allowed, listing, numbers_fit, used_total_of, used_within};
 
 use crate::holding::{empty_all, empty_at, fill_at};
 use crate::slot::Slot;
@@ -32,17 +32,17 @@ impl Store for SlotStore {
 
     ghost cost = { one_unit };
 
-    ghost costs = { costs };
+    ghost costs = { costs_hold };
 
-    ghost within = { within };
+    ghost within = { used_within };
 
-    ghost numbers = { numbers };
+    ghost numbers = { numbers_fit };
 
-    ghost lengths = { lengths };
+    ghost lengths = { lengths_allowed };
 
-    ghost listed = { listed };
+    ghost listed = { listing };
 
-    ghost tally = { tally };
+    ghost tally = { used_total_of };
 
     fn capacity() -> u32 {
         SLOTS as u32
