@@ -1,14 +1,15 @@
 -- What a row of slots holds, and what the change of one slot makes of it. Assumes nothing.
-use Rattle.std.specs.Prelude.{◌≡◌, ℕ, zero, suc, ◌+◌, ◌<◌, ◌≤◌, true, false, not, ◌≢◌, List, [], ◌∷◌, ◌++◌, length, take, drop, is_some, Some, None, Option, ◌==◌, nat_eq, slice_index_or, slice_set, refl}
+use Rattle.std.specs.Prelude.{◌≡◌, ℕ, zero, suc, ◌+◌, ◌<◌, ◌≤◌, true, false, List, [], ◌∷◌, ◌++◌, length, take, drop, is_some, Some, None, Option, ◌==◌, nat_eq, slice_index_or, slice_set, position, refl}
 use Rattle.std.proofs.Common.{sym, ap, ◌∙◌, ⊎_elim, append_assoc, arith, length-set}
 use Rattle.std.specs.List.{AllByRecursion}
 use Rattle.std.proofs.lemmas.List.{flat_map_more, length-take-le, set-get_or, take_more_set}
-use Rattle.std.proofs.lemmas.Bool.{cases_Bool, and_parts, eqb-true, eqb-false, not-true}
+use Rattle.std.proofs.lemmas.List.Elements.{recursion_from_All}
+use Rattle.std.proofs.lemmas.Bool.{cases_Bool, eqb-true}
 use Rattle.store.specs.Meaning.{Allowed, with, without}
 use Rattle.store.specs.Listing.{Entry, entry, lookup, distinct, total}
 use Rattle.store.proofs.Listed.{some_not_none, lookup_insert, distinct_insert, total_insert, removed, lookup_removed, lookup_there}
-use Rattle.slot_store.specs.declared.slot.Slot.{Slot}
-use Rattle.slot_store.specs.Slots.{one_unit, is_free, holds_number, bytes_of, held_by, only, messages, first_place, Changed}
+use Rattle.slot_store.specs.declared.slot.Message.{Message}
+use Rattle.slot_store.specs.Slots.{one_unit, Slot, is_free, holds_number, bytes_of, held_by, only, messages, Changed}
 use Rattle.slot_store.specs.First.{first_within, first_passes, none_passes}
 
 -- the messages before a place
@@ -32,64 +33,69 @@ split_changed : (xs ys : List Slot) (i : ℕ) (held : List Entry) → i < length
 split_changed xs ys i held h ch = ap messages ch.changes ∙ split_set xs i ch.slot h ∙ ap (λ l. before xs i ++ (l ++ behind xs i)) ch.holds
 
 -- at the first free slot nothing stands between
-split_free : (xs : List Slot) (i : ℕ) (d : Slot) → Some i ≡ first_place is_free xs → messages xs ≡ before xs i ++ behind xs i
-split_free xs i d at' = split_at xs i d (first_within is_free xs i at') ∙ rw (first_passes is_free xs i d at')
+pub free_none : (x : Slot) → is_free x ≡ true → held_by x ≡ []
+free_none None h = refl
+free_none (Some m) h = let z : ◌≡◌ {A = ℕ} 0 1 = cc in absurd (omega arith)
 
--- at the slot that holds a number, its message
-by_held : (n : ℕ) (x : Slot) → holds_number n x ≡ true → held_by x ≡ only n (bytes_of x)
-by_held n x h =
-    let p = and_parts (not (is_free x)) (n == x.number) h in
-    rw (not-true (is_free x) p.0, eqb-true n x.number p.1)
+split_free : (xs : List Slot) (i : ℕ) → Some i ≡ position is_free xs → messages xs ≡ before xs i ++ behind xs i
+split_free xs i at' = split_at xs i None (first_within is_free xs i None at') ∙ rw (free_none (slice_index_or xs i None) (first_passes is_free xs i None at'))
 
-split_held : (xs : List Slot) (i : ℕ) (d : Slot) (n : ℕ) → Some i ≡ first_place (holds_number n) xs → messages xs ≡ before xs i ++ entry n (bytes_of (slice_index_or xs i d)) ∷ behind xs i
-split_held xs i d n at' =
-    split_at xs i d (first_within (holds_number n) xs i at') ∙ rw (by_held n (slice_index_or xs i d) (first_passes (holds_number n) xs i d at'))
+-- where a slot holds a number, the message in it
+pub record In (n : ℕ) (x : Slot) : Type 0 where
+  pub message : Message
+  pub is : x ≡ Some message
+  pub number : n ≡ message.number
+
+in_slot : (n : ℕ) (x : Slot) → holds_number n x ≡ true → In n x
+in_slot n None h = let z : ◌≡◌ {A = ℕ} 0 1 = cc in absurd (omega arith)
+in_slot n (Some m) h = record { message = m; is = refl; number = eqb-true n m.number h }
+
+pub at_number : (xs : List Slot) (i n : ℕ) (d : Slot) → Some i ≡ position (holds_number n) xs → In n (slice_index_or xs i d)
+at_number xs i n d at' = in_slot n (slice_index_or xs i d) (first_passes (holds_number n) xs i d at')
+
+split_held : (xs : List Slot) (i n : ℕ) (d : Slot) (at' : Some i ≡ position (holds_number n) xs) → messages xs ≡ before xs i ++ entry n (bytes_of (at_number xs i n d at').message) ∷ behind xs i
+split_held xs i n d at' =
+    let x = at_number xs i n d at' in
+    split_at xs i d (first_within (holds_number n) xs i d at') ∙ ap (λ s. before xs i ++ (held_by s ++ behind xs i)) x.is
+    ∙ ap (λ k. before xs i ++ entry k (bytes_of x.message) ∷ behind xs i) (sym x.number)
 
 -- a number that no slot holds
-absent_all : (n : ℕ) (xs : List Slot) → AllByRecursion (λ x. not (holds_number n x) ≡ true) xs → lookup (messages xs) n ≡ None
+absent_all : (n : ℕ) (xs : List Slot) → AllByRecursion (λ x. holds_number n x ≡ false) xs → lookup (messages xs) n ≡ None
 absent_all n [] h = refl
-absent_all n (x ∷ xs) h =
-    ⊎_elim
-    (λ (t : is_free x ≡ true). rw t (absent_all n xs h.1))
-    (λ (f : is_free x ≡ false).
-    let a : nat_eq n x.number ≡ false = not-true (n == x.number) (rw f at h.0) in
-    rw (f, a) (absent_all n xs h.1))
-    (cases_Bool (is_free x))
+absent_all n (None ∷ xs) h = absent_all n xs h.1
+absent_all n (Some m ∷ xs) h = let a : nat_eq n m.number ≡ false = h.0 in rw a (absent_all n xs h.1)
 
-pub absent : (n : ℕ) (xs : List Slot) → None ≡ first_place (holds_number n) xs → lookup (messages xs) n ≡ None
-absent n xs h = absent_all n xs (none_passes (holds_number n) xs h)
+pub absent : (n : ℕ) (xs : List Slot) → None ≡ position (holds_number n) xs → lookup (messages xs) n ≡ None
+absent n xs h = absent_all n xs (recursion_from_All (λ x. holds_number n x ≡ false) xs (none_passes (holds_number n) xs h))
 
 -- a number that a slot holds
-pub there : (xs : List Slot) (i : ℕ) (d : Slot) (n : ℕ) → distinct (messages xs) ≡ true → Some i ≡ first_place (holds_number n) xs → lookup (messages xs) n ≡ Some (bytes_of (slice_index_or xs i d))
-there xs i d n once at' =
-    let old = split_held xs i d n at' in
-    rw old (lookup_there (before xs i) (behind xs i) (entry n (bytes_of (slice_index_or xs i d))) (rw old at once))
+pub there : (xs : List Slot) (i n : ℕ) (d : Slot) → distinct (messages xs) ≡ true → (at' : Some i ≡ position (holds_number n) xs) → lookup (messages xs) n ≡ Some (bytes_of (at_number xs i n d at').message)
+there xs i n d once at' =
+    let old = split_held xs i n d at' in
+    rw old (lookup_there (before xs i) (behind xs i) (entry n (bytes_of (at_number xs i n d at').message)) (rw old at once))
 
 -- whether a search found the number
-pub present : (n : ℕ) (xs : List Slot) (o : Option ℕ) → distinct (messages xs) ≡ true → o ≡ first_place (holds_number n) xs → true ≡ is_some o → is_some (lookup (messages xs) n) ≡ true
+pub present : (n : ℕ) (xs : List Slot) (o : Option ℕ) → distinct (messages xs) ≡ true → o ≡ position (holds_number n) xs → true ≡ is_some o → is_some (lookup (messages xs) n) ≡ true
 present n xs None once at' e = let z : ◌≡◌ {A = ℕ} 0 1 = cc in absurd (omega arith)
-present n [] (Some i) once at' e = absurd (some_not_none (Some i) i refl at')
-present n (x ∷ xs) (Some i) once at' e = ap is_some (there (x ∷ xs) i x n once at')
+present n xs (Some i) once at' e = ap is_some (there xs i n None once at')
 
-pub missing : (n : ℕ) (xs : List Slot) (o : Option ℕ) → o ≡ first_place (holds_number n) xs → false ≡ is_some o → lookup (messages xs) n ≡ None
+pub missing : (n : ℕ) (xs : List Slot) (o : Option ℕ) → o ≡ position (holds_number n) xs → false ≡ is_some o → lookup (messages xs) n ≡ None
 missing n xs None at' e = absent n xs at'
 missing n xs (Some i) at' e = let z : ◌≡◌ {A = ℕ} 0 1 = cc in absurd (omega arith)
 
 -- at most one unit for each slot, and just one for each where none is free
 pub bounded : (xs : List Slot) → total one_unit (messages xs) ≤ length xs
 bounded [] = omega arith
-bounded (x ∷ xs) =
-    ⊎_elim
-    (λ (t : is_free x ≡ true). rw t (omega (arith, bounded xs)))
-    (λ (f : is_free x ≡ false). rw f (omega (arith, bounded xs)))
-    (cases_Bool (is_free x))
+bounded (None ∷ xs) = omega (arith, bounded xs)
+bounded (Some m ∷ xs) = omega (arith, bounded xs)
 
-full_all : (xs : List Slot) → AllByRecursion (λ x. not (is_free x) ≡ true) xs → total one_unit (messages xs) ≡ length xs
+full_all : (xs : List Slot) → AllByRecursion (λ x. is_free x ≡ false) xs → total one_unit (messages xs) ≡ length xs
 full_all [] h = refl
-full_all (x ∷ xs) h = rw (not-true (is_free x) h.0) (omega (arith, full_all xs h.1))
+full_all (None ∷ xs) h = let f = h.0 in let z : ◌≡◌ {A = ℕ} 0 1 = cc in absurd (omega arith)
+full_all (Some m ∷ xs) h = omega (arith, full_all xs h.1)
 
-pub full : (xs : List Slot) → None ≡ first_place is_free xs → total one_unit (messages xs) ≡ length xs
-full xs h = full_all xs (none_passes is_free xs h)
+pub full : (xs : List Slot) → None ≡ position is_free xs → total one_unit (messages xs) ≡ length xs
+full xs h = full_all xs (recursion_from_All (λ x. is_free x ≡ false) xs (none_passes is_free xs h))
 
 -- one message more
 pub record More (xs ys : List Slot) (n : ℕ) (bytes : List ℕ) : Type 0 where
@@ -98,12 +104,12 @@ pub record More (xs ys : List Slot) (n : ℕ) (bytes : List ℕ) : Type 0 where
   pub count : total one_unit (messages ys) ≡ total one_unit (messages xs) + 1
   pub next : (m : ℕ) → lookup (messages ys) m ≡ with (lookup (messages xs)) n bytes m
 
-pub more : (xs ys : List Slot) (i n : ℕ) (bytes : List ℕ) → distinct (messages xs) ≡ true → lookup (messages xs) n ≡ None → Some i ≡ first_place is_free xs → Changed xs i (only n bytes) ys → More xs ys n bytes
+pub more : (xs ys : List Slot) (i n : ℕ) (bytes : List ℕ) → distinct (messages xs) ≡ true → lookup (messages xs) n ≡ None → Some i ≡ position is_free xs → Changed xs i (only n bytes) ys → More xs ys n bytes
 more xs ys i n bytes once none at' ch =
     let front = before xs i in
     let back = behind xs i in
-    let old = split_free xs i ch.slot at' in
-    let new = split_changed xs ys i (only n bytes) (first_within is_free xs i at') ch in
+    let old = split_free xs i at' in
+    let new = split_changed xs ys i (only n bytes) (first_within is_free xs i None at') ch in
     let none' : lookup (front ++ back) n ≡ None = rw old at none in
     record {
       long = ap length ch.changes ∙ length-set xs i ch.slot;
@@ -119,13 +125,13 @@ pub record Less (xs ys : List Slot) (n : ℕ) : Type 0 where
   pub count : total one_unit (messages xs) ≡ total one_unit (messages ys) + 1
   pub next : (m : ℕ) → lookup (messages ys) m ≡ without (lookup (messages xs)) n m
 
-pub less : (xs ys : List Slot) (i n : ℕ) → distinct (messages xs) ≡ true → Some i ≡ first_place (holds_number n) xs → Changed xs i [] ys → Less xs ys n
+pub less : (xs ys : List Slot) (i n : ℕ) → distinct (messages xs) ≡ true → Some i ≡ position (holds_number n) xs → Changed xs i [] ys → Less xs ys n
 less xs ys i n once at' ch =
     let front = before xs i in
     let back = behind xs i in
-    let e = entry n (bytes_of (slice_index_or xs i ch.slot)) in
-    let old = split_held xs i ch.slot n at' in
-    let new = split_changed xs ys i [] (first_within (holds_number n) xs i at') ch in
+    let e = entry n (bytes_of (at_number xs i n None at').message) in
+    let old = split_held xs i n None at' in
+    let new = split_changed xs ys i [] (first_within (holds_number n) xs i None at') ch in
     let once' : distinct (front ++ e ∷ back) ≡ true = rw old at once in
     record {
       long = ap length ch.changes ∙ length-set xs i ch.slot;
@@ -134,7 +140,7 @@ less xs ys i n once at' ch =
       next = λ m. rw (new, old) (lookup_removed front back e m once');
     }
 
--- a loop that empties each slot
+-- a loop that leaves each slot free
 pub empty_more : (xs : List Slot) (i : ℕ) (y : Slot) → i < length xs → messages (take i xs) ≡ [] → held_by y ≡ [] → messages (take (i + 1) (slice_set xs i y)) ≡ []
 empty_more xs i y h none is =
     ap messages (take_more_set xs i y h) ∙ sym (flat_map_more held_by [] (take i xs) y) ∙ rw (none, is)
@@ -142,19 +148,15 @@ empty_more xs i y h none is =
 -- what is held has a number and a length that are allowed
 pub held_allowed : (n : ℕ) (b : List ℕ) (xs : List Slot) → lookup (messages xs) n ≡ Some b → (n ≤ 4294967295) × Allowed (length b)
 held_allowed n b [] h = absurd (some_not_none None b h refl)
-held_allowed n b (x ∷ xs) h =
+held_allowed n b (None ∷ xs) h = held_allowed n b xs h
+held_allowed n b (Some m ∷ xs) h =
     ⊎_elim
-    (λ (t : is_free x ≡ true). held_allowed n b xs (rw t at h))
-    (λ (f : is_free x ≡ false).
-    ⊎_elim
-    (λ (t : nat_eq n x.number ≡ true).
-    let e : ◌≡◌ {A = Option (List ℕ)} (Some (bytes_of x)) (Some b) = rw (f, t) at h in
-    let is : bytes_of x ≡ b = cc in
-    let long : length (bytes_of x) ≡ x.length = length-take-le x.length x.bytes (omega (arith, x.short, x.whole)) in
-    let some : x.length ≢ 0 = eqb-false x.length 0 f in (
-      omega (arith, eqb-true n x.number t, x.small),
-      record { some = omega (arith, ap length is, long); short = omega (arith, ap length is, long, x.short) },
+    (λ (t : nat_eq n m.number ≡ true).
+    let e : ◌≡◌ {A = Option (List ℕ)} (Some (bytes_of m)) (Some b) = rw t at h in
+    let is : bytes_of m ≡ b = cc in
+    let long : length (bytes_of m) ≡ m.length = length-take-le m.length m.bytes (omega (arith, m.short, m.whole)) in (
+      omega (arith, eqb-true n m.number t, m.small),
+      record { some = omega (arith, ap length is, long, m.some); short = omega (arith, ap length is, long, m.short) },
     ))
-    (λ (g : nat_eq n x.number ≡ false). held_allowed n b xs (rw (f, g) at h))
-    (cases_Bool (n == x.number)))
-    (cases_Bool (is_free x))
+    (λ (g : nat_eq n m.number ≡ false). held_allowed n b xs (rw g at h))
+    (cases_Bool (n == m.number))

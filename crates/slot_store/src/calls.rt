@@ -6,8 +6,8 @@ ghost use Rattle.slot_store.specs.Slots.{Takes, one_unit};
 ghost use Rattle.slot_store.specs.Held.{contents};
 ghost use Rattle.slot_store.specs.Laws.{costs_hold, lengths_allowed, listing, numbers_fit, used_total_of, used_within};
 
-use crate::holding::{empty_all, empty_at, fill_at};
-use crate::slot::Slot;
+use crate::holding::empty_all;
+use crate::slot::Message;
 use crate::table::{SLOTS, SlotStore};
 use store::{MAX_LENGTH, Store, StoreFault, Units, copy_front};
 
@@ -17,7 +17,7 @@ impl SlotStore {
         ensures counts { result.used ≡ 0 }
     {
         SlotStore {
-            slots: [Slot::free(); SLOTS],
+            slots: [None; SLOTS],
             used: 0,
         }
     }
@@ -75,29 +75,28 @@ impl Store for SlotStore {
                 units: Units { wanted: 1, free: 0 },
             });
         };
-        fill_at(&mut self.slots, i, number, bytes);
+        self.slots[i] = Some(Message::new(number, bytes));
         self.used += 1;
         Ok(())
     }
 
     fn copy(&self, number: u32, buffer: &mut [u8]) -> Result<usize, StoreFault> {
-        let Some(i) = self.find(number) else {
+        let Some(message) = self.message(number) else {
             return Err(StoreFault::NotHeld { message: number });
         };
-        let slots = &self.slots[..];
-        let message = slots[i].message();
-        if buffer.len() < message.len() {
+        let bytes = message.bytes();
+        if buffer.len() < bytes.len() {
             return Err(StoreFault::Cramped { message: number });
         }
-        copy_front(buffer, message);
-        Ok(message.len())
+        copy_front(buffer, bytes);
+        Ok(bytes.len())
     }
 
     fn discard(&mut self, number: u32) -> Result<(), StoreFault> {
         let Some(i) = self.find(number) else {
             return Err(StoreFault::NotHeld { message: number });
         };
-        empty_at(&mut self.slots, i);
+        self.slots[i] = None;
         self.used -= 1;
         Ok(())
     }

@@ -1,5 +1,5 @@
 -- A discard empties the slot that holds the number, and counts one less.
-use Rattle.std.proofs.Common.{refl, ap, ◌∙◌, arith}
+use Rattle.std.proofs.Common.{None, slice_set, refl, ap, ◌∙◌, arith}
 use mathlib.Core.Path.{fun_ext}
 use Rattle.store.specs.Meaning.{units_in}
 use Rattle.store.proofs.Answered.{discard_missing, discard_ok}
@@ -7,7 +7,7 @@ use Rattle.slot_store.specs.Slots.{one_unit}
 use Rattle.slot_store.specs.Held.{contents}
 use Rattle.slot_store.specs.Rows.{Less, less, absent, there}
 use Rattle.slot_store.proofs.calls.SlotStoreStore.discard.Goals as goal
-use Rattle.slot_store.proofs.calls.SlotStoreStore.discard.Goals.{After-empty_at}
+use Rattle.slot_store.proofs.calls.SlotStoreStore.discard.Goals.{After-index-self-i}
 
 pub returns-in_default : goal.returns-in_default
 returns-in_default c =
@@ -20,10 +20,11 @@ returns-in_default c =
     }
 
 -- the slots without the message
-emptied : (c : After-empty_at) → Less c.args.self.now.slots c.empty_at.new.slots c.args.number
+emptied : (c : After-index-self-i) → Less c.args.self.now.slots (slice_set c.args.self.now.slots c.in-Some.i None) c.args.number
 emptied c =
     let s = c.args.self.now in
-    less s.slots c.empty_at.new.slots c.in-Some.i c.args.number s.once c.in-Some.ensures c.empty_at.ensures
+    less s.slots (slice_set s.slots c.in-Some.i None) c.in-Some.i c.args.number s.once c.in-Some.ensures
+    (record { slot = None; changes = refl; holds = refl })
 
 pub overflow_sub-self : goal.overflow_sub-self
 overflow_sub-self c = omega (arith, (emptied c).count, c.args.self.now.counted)
@@ -38,8 +39,8 @@ pub returns : goal.returns
 returns c =
     let s = c.args.self.now in
     let n = c.args.number in
-    let l = emptied (goal.at.returns c).After-empty_at in
-    let is = there s.slots c.in-Some.i c.empty_at.ensures.slot n s.once c.in-Some.ensures in
+    let l = emptied (goal.at.returns c).After-index-self-i in
+    let is = there s.slots c.in-Some.i n None s.once c.in-Some.ensures in
     record {
       answer = discard_ok (contents s) n _ is;
       holds = fun_ext l.next;
