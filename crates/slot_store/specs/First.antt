@@ -1,5 +1,5 @@
 -- What the first place that passes a test says of a list. Assumes nothing.
-use Rattle.std.specs.Prelude.{◌≡◌, ℕ, ◌<◌, ◌≤◌, Bool, true, false, not, ltb, List, length, Some, None, nat_lt, slice_index_or, position}
+use Rattle.std.specs.Prelude.{◌≡◌, ℕ, ◌<◌, Bool, true, false, ltb, List, length, Some, None, nat_lt, slice_index_or, position}
 use Rattle.std.proofs.Common.{sym, ⊎_elim, refl, arith}
 use Rattle.std.specs.List.{All, position_or_len}
 use Rattle.std.proofs.lemmas.List.Sums.{fails_before_first}

@@ -6,8 +6,7 @@ ghost use Rattle.slot_store.specs.Slots.{Takes, one_unit};
 ghost use Rattle.slot_store.specs.Held.{contents};
 ghost use Rattle.slot_store.specs.Laws.{costs_hold, lengths_allowed, listing, numbers_fit, used_total_of, used_within};
 
-use crate::holding::empty_all;
-use crate::slot::Message;
+use crate::holding::{empty_all, empty_at, fill_at};
 use crate::table::{SLOTS, SlotStore};
 use store::{MAX_LENGTH, Store, StoreFault, Units, copy_front};
 
@@ -20,6 +19,14 @@ impl SlotStore {
             slots: [None; SLOTS],
             used: 0,
         }
+    }
+}
+
+impl Default for SlotStore {
+    ghost is_default = { λ s. (contents s ≡ nothing) × (s.used ≡ 0) };
+
+    fn default() -> SlotStore {
+        SlotStore::new()
     }
 }
 
@@ -69,21 +76,19 @@ impl Store for SlotStore {
         if self.find(number).is_some() {
             return Err(StoreFault::Held { message: number });
         }
-        let Some(i) = self.lowest_free() else {
-            return Err(StoreFault::StoreFull {
-                message: number,
-                units: Units { wanted: 1, free: 0 },
-            });
-        };
-        self.slots[i] = Some(Message::new(number, bytes));
+        let i = self.lowest_free().ok_or(StoreFault::StoreFull {
+            message: number,
+            units: Units { wanted: 1, free: 0 },
+        })?;
+        fill_at(&mut self.slots, i, number, bytes);
         self.used += 1;
         Ok(())
     }
 
     fn copy(&self, number: u32, buffer: &mut [u8]) -> Result<usize, StoreFault> {
-        let Some(message) = self.message(number) else {
-            return Err(StoreFault::NotHeld { message: number });
-        };
+        let message = self
+            .message(number)
+            .ok_or(StoreFault::NotHeld { message: number })?;
         let bytes = message.bytes();
         if buffer.len() < bytes.len() {
             return Err(StoreFault::Cramped { message: number });
@@ -93,10 +98,10 @@ impl Store for SlotStore {
     }
 
     fn discard(&mut self, number: u32) -> Result<(), StoreFault> {
-        let Some(i) = self.find(number) else {
-            return Err(StoreFault::NotHeld { message: number });
-        };
-        self.slots[i] = None;
+        let i = self
+            .find(number)
+            .ok_or(StoreFault::NotHeld { message: number })?;
+        empty_at(&mut self.slots, i);
         self.used -= 1;
         Ok(())
     }

@@ -1,6 +1,6 @@
-// A message put into a slot, its bytes, and slots emptied.
-ghost use Rattle.std.specs.Prelude.{◌≡◌, ◌≤◌, [], length};
-ghost use Rattle.slot_store.specs.Slots.{bytes_of, messages};
+// A message as a slot holds it, and changes of slots in a row.
+ghost use Rattle.std.specs.Prelude.{◌≡◌, ◌<◌, ◌≤◌, [], length};
+ghost use Rattle.slot_store.specs.Slots.{Changed, bytes_of, messages, only};
 
 use crate::slot::Message;
 use store::{MAX_LENGTH, copy_front};
@@ -26,6 +26,22 @@ impl Message {
     {
         &self.bytes[..self.length]
     }
+}
+
+pub(crate) fn fill_at(slots: &mut [Option<Message>], i: usize, number: u32, message: &[u8])
+    requires within { i < length slots.old }
+    requires some { 1 ≤ length message.now }
+    requires short { length message.now ≤ 128 }
+    ensures { Changed slots.old i (only number message.now) slots.new }
+{
+    slots[i] = Some(Message::new(number, message));
+}
+
+pub(crate) fn empty_at(slots: &mut [Option<Message>], i: usize)
+    requires { i < length slots.old }
+    ensures { Changed slots.old i [] slots.new }
+{
+    slots[i] = None;
 }
 
 // A `None` is written over the whole slot, so slots that are free already are left as they are.

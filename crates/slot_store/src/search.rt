@@ -11,9 +11,7 @@ impl SlotStore {
     pub(crate) fn find(&self, number: u32) -> Option<usize>
         ensures { result ≡ position (holds_number number) self.now.slots }
     {
-        self.slots
-            .iter()
-            .position(|slot| matches!(slot, Some(message) if message.number == number))
+        self.slots.iter().position(|slot| matches!(slot, Some(message) if message.number == number))
     }
 
     pub(crate) fn lowest_free(&self) -> Option<usize>

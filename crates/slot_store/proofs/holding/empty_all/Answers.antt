@@ -11,8 +11,8 @@ loop-slot-preserved c =
     let xs = c.loop-slot.slots in
     let i = c.loop-slot.slot-index in
     elim c.if-is_some.branch [
-      then-is_some w ↦ rw w.slots-is (empty_more xs i _ (omega arith) c.loop-slot.invariant refl)
-    | else-is_some w ↦ rw w.slots-is (empty_more xs i _ (omega arith) c.loop-slot.invariant (free_none _ (ap not (sym w.if-is_some.ensures))))
+      | then-is_some w ↦ rw w.slots-is (empty_more xs i _ (omega arith) c.loop-slot.invariant refl)
+      | else-is_some w ↦ rw w.slots-is (empty_more xs i _ (omega arith) c.loop-slot.invariant (free_none _ (ap not (sym w.if-is_some.ensures))))
     ]
 
 pub returns : goal.returns

@@ -1,5 +1,5 @@
 -- The message stands at the front of the slot's bytes.
-use Rattle.std.proofs.Common.{length, take, drop, refl, ap, ◌∙◌, replicate, arith}
+use Rattle.std.proofs.Common.{length, take, refl, ap, ◌∙◌, replicate, arith}
 use Rattle.std.proofs.lemmas.List.{take_at}
 use Rattle.store.proofs.Copied.{front_whole}
 use Rattle.slot_store.proofs.slot.Message.new.Goals as goal
