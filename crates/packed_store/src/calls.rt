@@ -6,7 +6,7 @@ ghost use Rattle.packed_store.specs.Stored.{contents};
 ghost use Rattle.packed_store.specs.Laws.{costs_hold, lengths_allowed, listing, numbers_fit, used_total_of, used_within};
 
 use crate::arena::{PackedStore, SIZE};
-use crate::layout::{HEADER, append, remove};
+use crate::layout::HEADER;
 use store::{MAX_LENGTH, Store, StoreFault, Units, copy_front};
 
 impl PackedStore {
@@ -47,7 +47,7 @@ impl Store for PackedStore {
     }
 
     fn cost(length: u8) -> u32 {
-        length as u32 + HEADER as u32
+        u32::from(length) + HEADER as u32
     }
 
     fn used(&self) -> u32 {
@@ -73,15 +73,14 @@ impl Store for PackedStore {
                 units,
             });
         }
-        append(&mut self.memory, self.used, number, bytes);
-        self.used += size;
+        self.append(number, bytes);
         Ok(())
     }
 
     fn copy(&self, number: u32, buffer: &mut [u8]) -> Result<usize, StoreFault> {
-        let Some(message) = self.message(number) else {
-            return Err(StoreFault::NotHeld { message: number });
-        };
+        let message = self
+            .message(number)
+            .ok_or(StoreFault::NotHeld { message: number })?;
         if buffer.len() < message.len() {
             return Err(StoreFault::Cramped { message: number });
         }
@@ -90,12 +89,10 @@ impl Store for PackedStore {
     }
 
     fn discard(&mut self, number: u32) -> Result<(), StoreFault> {
-        let Some(at) = self.find(number) else {
-            return Err(StoreFault::NotHeld { message: number });
-        };
-        let size = HEADER + self.length_at(at);
-        remove(&mut self.memory, self.used, at, size);
-        self.used -= size;
+        let at = self
+            .find(number)
+            .ok_or(StoreFault::NotHeld { message: number })?;
+        self.remove_at(at);
         Ok(())
     }
 

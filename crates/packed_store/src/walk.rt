@@ -12,19 +12,14 @@ impl PackedStore {
         requires { at + 16 ≤ 4096 }
         ensures { result ≡ number_at self.now.memory at }
     {
-        u32::from_le_bytes([
-            self.memory[at],
-            self.memory[at + 1],
-            self.memory[at + 2],
-            self.memory[at + 3],
-        ])
+        u32::from_le_bytes(self.memory[at..at + 4].try_into().unwrap())
     }
 
     pub(crate) fn length_at(&self, at: usize) -> usize
         requires { at + 16 ≤ 4096 }
         ensures { result ≡ length_at self.now.memory at }
     {
-        self.memory[at + 4] as usize
+        usize::from(self.memory[at + 4])
     }
 
     // Where the header of a number's message begins.
