@@ -1,8 +1,8 @@
 -- What one message more and one less make of the memory, and of what is held.
-use Rattle.std.proofs.Common.{◌≡◌, ℕ, ◌+◌, ◌-◌, ◌≤◌, true, List, [], ◌∷◌, ◌++◌, length, take, drop, None, sym, refl, ap, ◌∙◌, append-nil, arith, length-append, length-drop}
+use Rattle.std.proofs.Common.{◌≡◌, ℕ, ◌+◌, ◌-◌, ◌≤◌, true, List, [], ◌∷◌, ◌++◌, length, take, drop, None, sym, refl, ap, ◌∙◌, append_assoc, append-nil, arith, length-append, length-drop}
 use mathlib.Core.Path.{fun_ext}
 use lib.Seq.{paste}
-use Rattle.std.proofs.lemmas.List.{take_at, drop_at, take_all, take-take, drop-drop, drop-take}
+use Rattle.std.proofs.lemmas.List.{take_at, drop_at, take_all, take-take, drop-take, length-take-le}
 use Rattle.std.proofs.lemmas.List.Edits.{take-paste, length-paste}
 use Rattle.std.proofs.lemmas.Bool.{and_parts, and_from}
 use Rattle.store.specs.Meaning.{Allowed, with, without}
@@ -11,7 +11,7 @@ use Rattle.store.proofs.Listed.{lookup_insert, distinct_insert, removed, lookup_
 use Rattle.packed_store.specs.Layout.{laid, packed, number_at, length_at, bytes_at, messages, held_in}
 use Rattle.packed_store.specs.Inside.{fit, all_fit, Packs, Sound, Spot}
 use Rattle.packed_store.specs.Packing.{packed_append, fit_append, fit_parts, fits}
-use Rattle.packed_store.proofs.Places.{parts, message_ends, bytes_long, spot_packs}
+use Rattle.packed_store.proofs.Places.{parts, behind, message_ends, bytes_long, spot_packs}
 
 -- a new message behind the others
 module _ {memory : List ℕ} {used : ℕ} (p : Sound memory used) (n : ℕ) (bytes : List ℕ) (fresh : held_in memory used n ≡ None) where
@@ -48,33 +48,41 @@ module _ {memory : List ℕ} {used at : ℕ} (p : Sound memory used) (x : Spot m
       (λ k. lookup_removed x.front x.back e k (spot_packs p x).once
       ∙ ap (λ m. without (lookup m) e.number k) (sym x.split))
 
-  pub less_packs : (gap : ℕ) → gap ≡ 16 + length_at memory at → {after : List ℕ} → after ≡ paste memory at (drop (at + gap) memory) (used - (at + gap)) → Packs after (used - gap) (x.front ++ x.back)
-  less_packs gap size {after} is =
+  -- what lies from there on
+  abbrev mid : List ℕ
+  mid = take (used - at) (drop at memory)
+
+  pub less_packs : (gap : ℕ) → gap ≡ 16 + length_at memory at → {part : List ℕ} → part ≡ paste mid 0 (drop gap mid) (length mid - gap) → Packs (take at memory ++ (part ++ drop (used - at) (drop at memory))) (used - gap) (x.front ++ x.back)
+  less_packs gap size {part} is =
       let e = entry (number_at memory at) (bytes_at memory at) in
       let q = spot_packs p x in
       let a = packed x.front in
       let b = laid e.number e.bytes in
       let c = packed x.back in
-      let n = used - (at + gap) in
-      let behind = drop (at + gap) memory in
-      let all : take used memory ≡ a ++ (b ++ c) = parts x.front (e ∷ x.back) q at x.place in
+      let n = length (b ++ c) - gap in
+      let rest = drop (0 + n) (b ++ c) in
+      let tail = drop (used - at) (drop at memory) in
       let long = bytes_long p at x.inside in
       let size_is : gap ≡ length b = omega arith in
-      let up_to : at + gap + n ≡ used = omega (arith, x.inside) in
-      let left : used - gap ≡ at + n = omega (arith, x.inside) in
+      let up_to : at + (used - at) ≡ used = omega (arith, x.inside) in
       let front_is : take at memory ≡ a =
-      sym (take-take at used memory (omega (arith, x.inside))) ∙ ap (λ m. take at m) all ∙ take_at a (b ++ c) at (sym x.place) in
-      let back_is : take n behind ≡ c =
-      sym (drop-take (at + gap) n memory) ∙ ap (λ k. drop (at + gap) (take k memory)) up_to ∙ ap (λ m. drop (at + gap) m) all
-      ∙ sym (drop-drop gap at (a ++ (b ++ c))) ∙ ap (λ m. drop gap m) (drop_at a (b ++ c) at (sym x.place)) ∙ drop_at b c gap (sym size_is) in
-      let inside : at ≤ length memory = omega (arith, x.inside, p.room, p.whole) in
-      let enough : n ≤ length behind = omega (arith, x.inside, p.room, p.whole, length-drop (at + gap) memory) in
+      sym (take-take at used memory (omega (arith, x.inside))) ∙ ap (λ m. take at m) (parts x.front (e ∷ x.back) q at x.place)
+      ∙ take_at a (b ++ c) at (sym x.place) in
+      let mid_is : mid ≡ b ++ c =
+      sym (drop-take at (used - at) memory) ∙ ap (λ k. drop at (take k memory)) up_to ∙ behind x.front (e ∷ x.back) q at x.place in
+      let moved : part ≡ c ++ rest =
+      is ∙ ap (λ l. paste l 0 (drop gap l) (length l - gap)) mid_is
+      ∙ ap (λ l. l ++ rest) (ap (λ l. take n l) (drop_at b c gap (sym size_is)) ∙ take_all n c (omega (arith, length-append b c))) in
+      let ends = message_ends x.front e x.back q at x.place in
+      let mid_long = length-take-le (used - at) (drop at memory) (omega (arith, p.room, p.whole, length-drop at memory)) in
+      let part_long = ap length is ∙ length-paste mid 0 (drop gap mid) (length mid - gap) (omega arith) (omega (arith, length-drop gap mid)) in
       let good = fit_parts x.front (e ∷ x.back) q.good in
       record {
-        whole = ap length is ∙ length-paste memory at behind n (omega (arith, x.inside, p.room, p.whole)) enough ∙ p.whole;
+        whole = omega (arith, length-append (take at memory) (part ++ tail), length-append part tail, length-take-le at memory (omega (arith, x.inside, p.room, p.whole)), length-drop at memory, length-drop (used - at) (drop at memory), mid_long, part_long, x.inside, p.room, p.whole);
         room = omega (arith, p.room);
-        packs = ap (λ k. take k after) left ∙ ap (λ m. take (at + n) m) is ∙ take-paste memory at behind n inside enough
-            ∙ ap (λ l. l ++ take n behind) front_is ∙ ap (λ l. a ++ l) back_is ∙ sym (packed_append x.front x.back);
+        packs = ap (λ l. take (used - gap) (l ++ (part ++ tail))) front_is ∙ ap (λ l. take (used - gap) (a ++ (l ++ tail))) moved
+            ∙ ap (λ l. take (used - gap) l) (ap (λ l. a ++ l) (append_assoc c rest tail) ∙ sym (append_assoc a c (rest ++ tail)))
+            ∙ take_at (a ++ c) (rest ++ tail) (used - gap) (omega (arith, length-append a c, x.place)) ∙ sym (packed_append x.front x.back);
         good = fit_append x.front x.back good.0 (and_parts (fit e) (all_fit x.back) good.1).1;
         once = (removed x.front x.back e q.once).1;
       }

@@ -40,7 +40,7 @@ impl PackedStore {
         ensures counts { self.new.used + units_for (length_at self.old.memory at) ≡ self.old.used }
     {
         let size = HEADER + self.length_at(at);
-        self.memory.copy_within(at + size..self.used, at);
+        self.memory[at..self.used].copy_within(size.., 0);
         self.used -= size;
     }
 }
