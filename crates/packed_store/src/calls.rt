@@ -21,6 +21,14 @@ impl PackedStore {
     }
 }
 
+impl Default for PackedStore {
+    ghost is_default = { λ s. (contents s ≡ nothing) × (s.used ≡ 0) };
+
+    fn default() -> PackedStore {
+        PackedStore::new()
+    }
+}
+
 impl Store for PackedStore {
     ghost held = { contents };
 
@@ -78,9 +86,9 @@ impl Store for PackedStore {
     }
 
     fn copy(&self, number: u32, buffer: &mut [u8]) -> Result<usize, StoreFault> {
-        let message = self
-            .message(number)
-            .ok_or(StoreFault::NotHeld { message: number })?;
+        let Some(message) = self.message(number) else {
+            return Err(StoreFault::NotHeld { message: number });
+        };
         if buffer.len() < message.len() {
             return Err(StoreFault::Cramped { message: number });
         }
@@ -89,9 +97,9 @@ impl Store for PackedStore {
     }
 
     fn discard(&mut self, number: u32) -> Result<(), StoreFault> {
-        let at = self
-            .find(number)
-            .ok_or(StoreFault::NotHeld { message: number })?;
+        let Some(at) = self.find(number) else {
+            return Err(StoreFault::NotHeld { message: number });
+        };
         self.remove_at(at);
         Ok(())
     }

@@ -22,7 +22,8 @@ impl PackedStore {
         usize::from(self.memory[at + 4])
     }
 
-    // Where the header of a number's message begins.
+    // Where the header of a number's message begins. A loop, since each step is as long as the message there: an
+    // iterator would be one more struct, with this body in its `next`.
     pub(crate) fn find(&self, number: u32) -> Option<usize>
         ensures { MatchOption result (contents self.now number ≡ None) (Found self.now.memory self.now.used number) }
     {

@@ -76,19 +76,21 @@ impl Store for SlotStore {
         if self.find(number).is_some() {
             return Err(StoreFault::Held { message: number });
         }
-        let i = self.lowest_free().ok_or(StoreFault::StoreFull {
-            message: number,
-            units: Units { wanted: 1, free: 0 },
-        })?;
+        let Some(i) = self.lowest_free() else {
+            return Err(StoreFault::StoreFull {
+                message: number,
+                units: Units { wanted: 1, free: 0 },
+            });
+        };
         fill_at(&mut self.slots, i, number, bytes);
         self.used += 1;
         Ok(())
     }
 
     fn copy(&self, number: u32, buffer: &mut [u8]) -> Result<usize, StoreFault> {
-        let message = self
-            .message(number)
-            .ok_or(StoreFault::NotHeld { message: number })?;
+        let Some(message) = self.message(number) else {
+            return Err(StoreFault::NotHeld { message: number });
+        };
         let bytes = message.bytes();
         if buffer.len() < bytes.len() {
             return Err(StoreFault::Cramped { message: number });
@@ -98,9 +100,9 @@ impl Store for SlotStore {
     }
 
     fn discard(&mut self, number: u32) -> Result<(), StoreFault> {
-        let i = self
-            .find(number)
-            .ok_or(StoreFault::NotHeld { message: number })?;
+        let Some(i) = self.find(number) else {
+            return Err(StoreFault::NotHeld { message: number });
+        };
         empty_at(&mut self.slots, i);
         self.used -= 1;
         Ok(())

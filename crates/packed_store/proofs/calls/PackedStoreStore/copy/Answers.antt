@@ -4,4 +4,4 @@ use Rattle.store.proofs.Copied.{front_whole}
 use Rattle.packed_store.proofs.calls.PackedStoreStore.copy.Goals as goal
 
 pub returns : goal.returns
-returns c = let whole = front_whole c.args.buffer.now c.in_ok-message.message.now (omega arith) in search rules
+returns c = let whole = front_whole c.args.buffer.now c.in-Some.message.now (omega arith) in search rules

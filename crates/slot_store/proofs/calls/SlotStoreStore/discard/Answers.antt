@@ -1,5 +1,5 @@
 -- A discard empties the slot that holds the number, and counts one less.
-use Rattle.std.proofs.Common.{None, sym, refl, ap, ◌∙◌, arith, rules}
+use Rattle.std.proofs.Common.{None, refl, ap, ◌∙◌, arith, rules}
 use mathlib.Core.Path.{fun_ext}
 use Rattle.store.specs.Meaning.{units_in}
 use Rattle.store.proofs.Answered.{discard_ok}
@@ -9,16 +9,16 @@ use Rattle.slot_store.specs.Rows.{Less, less, absent, there}
 use Rattle.slot_store.proofs.calls.SlotStoreStore.discard.Goals as goal
 use Rattle.slot_store.proofs.calls.SlotStoreStore.discard.Goals.{After-empty_at}
 
-pub returns-in_err-i : goal.returns-in_err-i
-returns-in_err-i c =
-    let none = absent c.args.number c.args.self.now.slots (sym c.in_err-i.ensures.ok_part ∙ c.find.ensures) in
+pub returns-in_default : goal.returns-in_default
+returns-in_default c =
+    let none = absent c.args.number c.args.self.now.slots c.in_default.ensures in
     search rules
 
 -- the slots without the message
 emptied : (c : After-empty_at) → Less c.args.self.now.slots c.empty_at.new.slots c.args.number
 emptied c =
     let s = c.args.self.now in
-    less s.slots c.empty_at.new.slots c.in_ok-i.i c.args.number s.once (sym c.in_ok-i.ensures.ok_part ∙ c.find.ensures) c.empty_at.ensures
+    less s.slots c.empty_at.new.slots c.in-Some.i c.args.number s.once c.in-Some.ensures c.empty_at.ensures
 
 pub overflow_sub-self : goal.overflow_sub-self
 overflow_sub-self c = omega (arith, (emptied c).count, c.args.self.now.counted)
@@ -34,7 +34,7 @@ returns c =
     let s = c.args.self.now in
     let n = c.args.number in
     let l = emptied (goal.at.returns c).After-empty_at in
-    let is = there s.slots c.in_ok-i.i n None s.once (sym c.in_ok-i.ensures.ok_part ∙ c.find.ensures) in
+    let is = there s.slots c.in-Some.i n None s.once c.in-Some.ensures in
     record {
       answer = discard_ok (contents s) n _ is;
       holds = fun_ext l.next;

@@ -1,5 +1,5 @@
 -- A put is refused by the first row that holds, or fills the lowest free slot.
-use Rattle.std.proofs.Common.{sym, refl, ◌∙◌, arith, rules}
+use Rattle.std.proofs.Common.{refl, ◌∙◌, arith, rules}
 use mathlib.Core.Path.{fun_ext}
 use Rattle.store.proofs.Answered.{put_held, put_full, put_ok}
 use Rattle.slot_store.specs.Slots.{one_unit}
@@ -14,14 +14,13 @@ returns-then-is_some-clause-answer c =
     put_held 64 one_unit (contents s) s.used c.args.number c.args.bytes.now (search rules) (search rules)
     (present c.args.number s.slots c.find.result s.once c.find.ensures c.if-is_some.ensures)
 
-pub returns-in_err-i-clause-answer : goal.returns-in_err-i-clause-answer
-returns-in_err-i-clause-answer c =
+pub returns-in_default-clause-answer : goal.returns-in_default-clause-answer
+returns-in_default-clause-answer c =
     let s = c.args.self.now in
     let none = missing c.args.number s.slots c.find.result c.find.ensures c.if-is_some.ensures in
-    let all = full s.slots (sym c.in_err-i.ensures.ok_part ∙ c.lowest_free.ensures) in
-    let answer = put_full 64 one_unit (contents s) s.used c.args.number c.args.bytes.now (search rules) (search rules)
-    (record { wanted = 1; free = 0 }) none (omega (arith, all, s.counted, s.whole)) refl (omega (arith, all, s.counted, s.whole)) in
-    search rules
+    let all = full s.slots c.in_default.ensures in
+    put_full 64 one_unit (contents s) s.used c.args.number c.args.bytes.now (search rules) (search rules)
+    (record { wanted = 1; free = 0 }) none (omega (arith, all, s.counted, s.whole)) refl (omega (arith, all, s.counted, s.whole))
 
 pub overflow_add-self : goal.overflow_add-self
 overflow_add-self c = let s = c.args.self.now in omega (arith, bounded s.slots, s.counted, s.whole)
@@ -31,8 +30,7 @@ filled : (c : After-fill_at) → More c.args.self.now.slots c.fill_at.new.slots 
 filled c =
     let s = c.args.self.now in
     let none = missing c.args.number s.slots c.find.result c.find.ensures c.if-is_some.ensures in
-    let lowest = sym c.in_ok-i.ensures.ok_part ∙ c.lowest_free.ensures in
-    more s.slots c.fill_at.new.slots c.in_ok-i.i c.args.number c.args.bytes.now s.once none lowest c.fill_at.ensures
+    more s.slots c.fill_at.new.slots c.in-Some.i c.args.number c.args.bytes.now s.once none c.in-Some.ensures c.fill_at.ensures
 
 pub invariant_of-self : goal.invariant_of-self
 invariant_of-self c =
@@ -44,12 +42,11 @@ pub returns : goal.returns
 returns c =
     let s = c.args.self.now in
     let none = missing c.args.number s.slots c.find.result c.find.ensures c.if-is_some.ensures in
-    let lowest = sym c.in_ok-i.ensures.ok_part ∙ c.lowest_free.ensures in
     let m = filled (goal.at.returns c).After-fill_at in
     record {
       answer = put_ok 64 one_unit (contents s) s.used c.args.number c.args.bytes.now (search rules) (search rules) none
           (omega (arith, bounded c.fill_at.new.slots, m.count, m.long, s.counted, s.whole));
       holds = fun_ext m.next;
       counts = refl;
-      takes = record { place = c.in_ok-i.i; lowest = lowest; fills = c.fill_at.ensures };
+      takes = record { place = c.in-Some.i; lowest = c.in-Some.ensures; fills = c.fill_at.ensures };
     }
