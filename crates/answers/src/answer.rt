@@ -1,7 +1,7 @@
 // What an accepted call answers, and the five counts.
-ghost use Rattle.std.specs.Prelude.{◌≡◌, Some};
-ghost use Rattle.answers.specs.Answers.{status_text, answer_text, counts_text};
-ghost use Rattle.answers.specs.Counts.{count_accepted, count_displaced, count_handed_over, count_withdrawn, no_message};
+ghost use Rattle.std.specs.Prelude.{◌≡◌, ◌-◌, Some};
+ghost use Rattle.answers.specs.Answers.{status_text, answer_text, counts_text, field_text};
+ghost use Rattle.answers.specs.Counts.{count_accepted, count_displaced, count_handed_over, count_withdrawn, no_message, one_more};
 
 use std::fmt;
 
@@ -26,7 +26,7 @@ pub struct Answer {
 }
 
 // How many messages had each fate; a count stays at its largest value once it is reached.
-#[derive(Clone, Copy, Debug, PartialEq, Eq)]
+#[derive(Clone, Copy, Debug, Default, PartialEq, Eq)]
 pub struct Counts {
     pub accepted: u64,
     pub queued: u64,
@@ -52,13 +52,7 @@ impl Counts {
     pub fn none() -> Counts
         ensures { result ≡ no_message }
     {
-        Counts {
-            accepted: 0,
-            queued: 0,
-            handed_over: 0,
-            withdrawn: 0,
-            displaced: 0,
-        }
+        Counts::default()
     }
 
     // A message is accepted, and queued until it has another fate.
@@ -73,33 +67,53 @@ impl Counts {
     pub fn hand_over(&mut self)
         ensures { self.new ≡ count_handed_over self.old }
     {
-        self.queued = self.queued.saturating_sub(1);
-        self.handed_over = self.handed_over.saturating_add(1);
+        move_one(&mut self.queued, &mut self.handed_over);
     }
 
     // A queued message is withdrawn.
     pub fn withdraw(&mut self)
         ensures { self.new ≡ count_withdrawn self.old }
     {
-        self.queued = self.queued.saturating_sub(1);
-        self.withdrawn = self.withdrawn.saturating_add(1);
+        move_one(&mut self.queued, &mut self.withdrawn);
     }
 
     // A queued message is displaced.
     pub fn displace(&mut self)
         ensures { self.new ≡ count_displaced self.old }
     {
-        self.queued = self.queued.saturating_sub(1);
-        self.displaced = self.displaced.saturating_add(1);
+        move_one(&mut self.queued, &mut self.displaced);
     }
+}
+
+// One message leaves a count and joins another.
+fn move_one(from: &mut u64, to: &mut u64)
+    ensures from { from.new ≡ from.old - 1 }
+    ensures to { to.new ≡ one_more to.old }
+{
+    *from = from.saturating_sub(1);
+    *to = to.saturating_add(1);
 }
 
 impl fmt::Display for Status {
     ghost output = { λ x. Some (status_text x) };
 
     fn fmt<W: fmt::Write>(&self, f: &mut fmt::Formatter<W>) -> fmt::Result {
-        let name = self.name();
-        write!(f, "{name}")
+        f.write_str(self.name())
+    }
+}
+
+// A field of an answer and its number, or nothing where it is absent.
+#[derive(Clone, Copy)]
+struct Field(&'static str, Option<u64>);
+
+impl fmt::Display for Field {
+    ghost output = { λ x. Some (field_text x.0.now x.1) };
+
+    fn fmt<W: fmt::Write>(&self, f: &mut fmt::Formatter<W>) -> fmt::Result {
+        match self.1 {
+            Some(number) => write!(f, "{}{number}", self.0),
+            None => Ok(()),
+        }
     }
 }
 
@@ -107,19 +121,10 @@ impl fmt::Display for Answer {
     ghost output = { λ x. Some (answer_text x) };
 
     fn fmt<W: fmt::Write>(&self, f: &mut fmt::Formatter<W>) -> fmt::Result {
-        let status = self.status;
-        match (self.message, self.length, self.displaced) {
-            (None, None, None) => write!(f, "{status}"),
-            (Some(n), None, None) => write!(f, "{status} message={n}"),
-            (Some(n), Some(l), None) => write!(f, "{status} message={n} length={l}"),
-            (Some(n), None, Some(d)) => write!(f, "{status} message={n} displaced={d}"),
-            (Some(n), Some(l), Some(d)) => {
-                write!(f, "{status} message={n} length={l} displaced={d}")
-            }
-            (None, Some(l), None) => write!(f, "{status} length={l}"),
-            (None, None, Some(d)) => write!(f, "{status} displaced={d}"),
-            (None, Some(l), Some(d)) => write!(f, "{status} length={l} displaced={d}"),
-        }
+        let message = Field(" message=", self.message.map(u64::from));
+        let length = Field(" length=", self.length.map(|n| n as u64));
+        let displaced = Field(" displaced=", self.displaced.map(u64::from));
+        write!(f, "{}{message}{length}{displaced}", self.status)
     }
 }
 
@@ -127,11 +132,13 @@ impl fmt::Display for Counts {
     ghost output = { λ x. Some (counts_text x) };
 
     fn fmt<W: fmt::Write>(&self, f: &mut fmt::Formatter<W>) -> fmt::Result {
-        let accepted = self.accepted;
-        let queued = self.queued;
-        let handed_over = self.handed_over;
-        let withdrawn = self.withdrawn;
-        let displaced = self.displaced;
+        let Counts {
+            accepted,
+            queued,
+            handed_over,
+            withdrawn,
+            displaced,
+        } = *self;
         write!(
             f,
             "accepted={accepted} queued={queued} handed_over={handed_over} withdrawn={withdrawn} displaced={displaced}"
