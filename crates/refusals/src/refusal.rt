@@ -4,7 +4,7 @@ ghost use Rattle.refusals.specs.Refusals.{number_of, name_of, layer_of, place_of
 
 use answers::{MailboxNumber, TaskNumber};
 use std::fmt;
-use store::{Layer, StoreFault, Units};
+use store::{Layer, Particulars, StoreFault, Units};
 
 // One case for each row of the table of refusals; SHORT_BUFFER has two, since its place differs.
 #[derive(Clone, Copy, Debug, PartialEq, Eq)]
@@ -34,104 +34,74 @@ pub enum Refusal {
 }
 
 impl Refusal {
+    // The table of refusals.
+    pub fn particulars(&self) -> Particulars
+        ensures number { result.number ≡ number_of self.now }
+        ensures name { result.name.now ≡ name_of self.now }
+        ensures layer { result.layer ≡ layer_of self.now }
+        ensures place { result.place ≡ place_of self.now }
+        ensures units { result.units ≡ units_of self.now }
+    {
+        let (number, name, layer, place) = match *self {
+            Refusal::AnswerDue { task } => (1, "ANSWER_DUE", Layer::Kernel, task),
+            Refusal::NothingDue { task } => (2, "NOTHING_DUE", Layer::Kernel, task),
+            Refusal::IdleTask { task } => (3, "IDLE_TASK", Layer::Kernel, task),
+            Refusal::BadNumber { given } => (4, "BAD_NUMBER", Layer::Kernel, given),
+            Refusal::BadLevel { given } => (5, "BAD_LEVEL", Layer::Kernel, given),
+            Refusal::BadShape { given } => (6, "BAD_SHAPE", Layer::Kernel, given),
+            Refusal::Taken { given } => (7, "TAKEN", Layer::Kernel, given),
+            Refusal::NoMailbox { mailbox } => (8, "NO_MAILBOX", Layer::Mailbox, mailbox),
+            Refusal::NotEmpty { mailbox } => (9, "NOT_EMPTY", Layer::Mailbox, mailbox),
+            Refusal::WrongSize { mailbox } => (10, "WRONG_SIZE", Layer::Mailbox, mailbox),
+            Refusal::ShortBuffer { mailbox } => (11, "SHORT_BUFFER", Layer::Mailbox, mailbox),
+            Refusal::ShortCollect { task } => (11, "SHORT_BUFFER", Layer::Kernel, task),
+            Refusal::Mixed { mailbox } => (12, "MIXED", Layer::Mailbox, mailbox),
+            Refusal::Empty { mailbox } => (13, "EMPTY", Layer::Mailbox, mailbox),
+            Refusal::Full { mailbox } => (14, "FULL", Layer::Mailbox, mailbox),
+            Refusal::TooLong { task } => (15, "TOO_LONG", Layer::Kernel, task),
+            Refusal::NumbersSpent { task } => (16, "NUMBERS_SPENT", Layer::Kernel, task),
+            Refusal::Store(fault) => return fault.particulars(),
+        };
+        Particulars {
+            number,
+            name,
+            layer,
+            place: u32::from(place),
+            units: None,
+        }
+    }
+
+    // Each column by its name: methods of the type itself, since a trait for both types would have to be imported by callers.
     pub fn number(&self) -> u8
         ensures { result ≡ number_of self.now }
     {
-        match self {
-            Refusal::AnswerDue { .. } => 1,
-            Refusal::NothingDue { .. } => 2,
-            Refusal::IdleTask { .. } => 3,
-            Refusal::BadNumber { .. } => 4,
-            Refusal::BadLevel { .. } => 5,
-            Refusal::BadShape { .. } => 6,
-            Refusal::Taken { .. } => 7,
-            Refusal::NoMailbox { .. } => 8,
-            Refusal::NotEmpty { .. } => 9,
-            Refusal::WrongSize { .. } => 10,
-            Refusal::ShortBuffer { .. } | Refusal::ShortCollect { .. } => 11,
-            Refusal::Mixed { .. } => 12,
-            Refusal::Empty { .. } => 13,
-            Refusal::Full { .. } => 14,
-            Refusal::TooLong { .. } => 15,
-            Refusal::NumbersSpent { .. } => 16,
-            Refusal::Store(fault) => fault.number(),
-        }
+        self.particulars().number
     }
 
     pub fn name(&self) -> &'static str
         ensures { result.now ≡ name_of self.now }
     {
-        match self {
-            Refusal::AnswerDue { .. } => "ANSWER_DUE",
-            Refusal::NothingDue { .. } => "NOTHING_DUE",
-            Refusal::IdleTask { .. } => "IDLE_TASK",
-            Refusal::BadNumber { .. } => "BAD_NUMBER",
-            Refusal::BadLevel { .. } => "BAD_LEVEL",
-            Refusal::BadShape { .. } => "BAD_SHAPE",
-            Refusal::Taken { .. } => "TAKEN",
-            Refusal::NoMailbox { .. } => "NO_MAILBOX",
-            Refusal::NotEmpty { .. } => "NOT_EMPTY",
-            Refusal::WrongSize { .. } => "WRONG_SIZE",
-            Refusal::ShortBuffer { .. } | Refusal::ShortCollect { .. } => "SHORT_BUFFER",
-            Refusal::Mixed { .. } => "MIXED",
-            Refusal::Empty { .. } => "EMPTY",
-            Refusal::Full { .. } => "FULL",
-            Refusal::TooLong { .. } => "TOO_LONG",
-            Refusal::NumbersSpent { .. } => "NUMBERS_SPENT",
-            Refusal::Store(fault) => fault.name(),
-        }
+        self.particulars().name
     }
 
     pub fn layer(&self) -> Layer
         ensures { result ≡ layer_of self.now }
     {
-        match self {
-            Refusal::NoMailbox { .. }
-            | Refusal::NotEmpty { .. }
-            | Refusal::WrongSize { .. }
-            | Refusal::ShortBuffer { .. }
-            | Refusal::Mixed { .. }
-            | Refusal::Empty { .. }
-            | Refusal::Full { .. } => Layer::Mailbox,
-            Refusal::Store(fault) => fault.layer(),
-            _ => Layer::Kernel,
-        }
+        self.particulars().layer
     }
 
     // The running task, the number given, the mailbox or the message.
     pub fn place(&self) -> u32
         ensures { result ≡ place_of self.now }
     {
-        match self {
-            Refusal::AnswerDue { task }
-            | Refusal::NothingDue { task }
-            | Refusal::IdleTask { task }
-            | Refusal::ShortCollect { task }
-            | Refusal::TooLong { task }
-            | Refusal::NumbersSpent { task } => u32::from(*task),
-            Refusal::BadNumber { given }
-            | Refusal::BadLevel { given }
-            | Refusal::BadShape { given }
-            | Refusal::Taken { given } => u32::from(*given),
-            Refusal::NoMailbox { mailbox }
-            | Refusal::NotEmpty { mailbox }
-            | Refusal::WrongSize { mailbox }
-            | Refusal::ShortBuffer { mailbox }
-            | Refusal::Mixed { mailbox }
-            | Refusal::Empty { mailbox }
-            | Refusal::Full { mailbox } => u32::from(*mailbox),
-            Refusal::Store(fault) => fault.place(),
-        }
+        self.particulars().place
     }
 
     // The units wanted and free, which STORE_FULL alone tells.
     pub fn units(&self) -> Option<Units>
         ensures { result ≡ units_of self.now }
     {
-        match self {
-            Refusal::Store(fault) => fault.units(),
-            _ => None,
-        }
+        self.particulars().units
     }
 }
 
@@ -147,16 +117,6 @@ impl fmt::Display for Refusal {
     ghost output = { λ x. Some (printed x) };
 
     fn fmt<W: fmt::Write>(&self, f: &mut fmt::Formatter<W>) -> fmt::Result {
-        let number = self.number();
-        let name = self.name();
-        let layer = self.layer();
-        let place = self.place();
-        match self.units() {
-            Some(Units { wanted, free }) => write!(
-                f,
-                "refused {number} {name} layer={layer} place={place} wanted={wanted} free={free}"
-            ),
-            None => write!(f, "refused {number} {name} layer={layer} place={place}"),
-        }
+        write!(f, "{}", self.particulars())
     }
 }

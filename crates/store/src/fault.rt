@@ -1,6 +1,6 @@
 // Why a store refuses a call, and what the refusal tells: number, name, layer and place.
 ghost use Rattle.std.specs.Prelude.{◌≡◌, Some};
-ghost use Rattle.store.specs.Refusal.{number_of, name_of, layer_of, place_of, units_of, layer_text, printed};
+ghost use Rattle.store.specs.Refusal.{number_of, name_of, layer_of, place_of, units_of, layer_text, refusal_text, printed};
 
 use std::fmt;
 
@@ -41,58 +41,72 @@ pub enum StoreFault {
     Cramped { message: u32 },
 }
 
+// What a refusal tells: a row of the table of refusals, and the units with STORE_FULL alone.
+#[derive(Clone, Copy, Debug, PartialEq, Eq)]
+pub struct Particulars {
+    pub number: u8,
+    pub name: &'static str,
+    pub layer: Layer,
+    pub place: u32,
+    pub units: Option<Units>,
+}
+
 impl StoreFault {
+    // The table of a store's refusals.
+    pub fn particulars(&self) -> Particulars
+        ensures number { result.number ≡ number_of self.now }
+        ensures name { result.name.now ≡ name_of self.now }
+        ensures layer { result.layer ≡ layer_of self.now }
+        ensures place { result.place ≡ place_of self.now }
+        ensures units { result.units ≡ units_of self.now }
+    {
+        let (number, name, message, units) = match *self {
+            StoreFault::BadLength { message } => (17, "BAD_LENGTH", message, None),
+            StoreFault::Held { message } => (18, "HELD", message, None),
+            StoreFault::NotHeld { message } => (19, "NOT_HELD", message, None),
+            StoreFault::StoreFull { message, units } => (20, "STORE_FULL", message, Some(units)),
+            StoreFault::Cramped { message } => (21, "CRAMPED", message, None),
+        };
+        Particulars {
+            number,
+            name,
+            layer: Layer::Store,
+            place: message,
+            units,
+        }
+    }
+
+    // Each column by its name: methods of the type itself, since a trait for both types would have to be imported by callers.
     pub fn number(&self) -> u8
         ensures { result ≡ number_of self.now }
     {
-        match self {
-            StoreFault::BadLength { .. } => 17,
-            StoreFault::Held { .. } => 18,
-            StoreFault::NotHeld { .. } => 19,
-            StoreFault::StoreFull { .. } => 20,
-            StoreFault::Cramped { .. } => 21,
-        }
+        self.particulars().number
     }
 
     pub fn name(&self) -> &'static str
         ensures { result.now ≡ name_of self.now }
     {
-        match self {
-            StoreFault::BadLength { .. } => "BAD_LENGTH",
-            StoreFault::Held { .. } => "HELD",
-            StoreFault::NotHeld { .. } => "NOT_HELD",
-            StoreFault::StoreFull { .. } => "STORE_FULL",
-            StoreFault::Cramped { .. } => "CRAMPED",
-        }
+        self.particulars().name
     }
 
     pub fn layer(&self) -> Layer
         ensures { result ≡ layer_of self.now }
     {
-        Layer::Store
+        self.particulars().layer
     }
 
     // The message number.
     pub fn place(&self) -> u32
         ensures { result ≡ place_of self.now }
     {
-        match self {
-            StoreFault::BadLength { message }
-            | StoreFault::Held { message }
-            | StoreFault::NotHeld { message }
-            | StoreFault::StoreFull { message, .. }
-            | StoreFault::Cramped { message } => *message,
-        }
+        self.particulars().place
     }
 
     // The units wanted and free, which STORE_FULL alone tells.
     pub fn units(&self) -> Option<Units>
         ensures { result ≡ units_of self.now }
     {
-        match self {
-            StoreFault::StoreFull { units, .. } => Some(*units),
-            _ => None,
-        }
+        self.particulars().units
     }
 }
 
@@ -100,8 +114,26 @@ impl fmt::Display for Layer {
     ghost output = { λ l. Some (layer_text l) };
 
     fn fmt<W: fmt::Write>(&self, f: &mut fmt::Formatter<W>) -> fmt::Result {
-        let name = self.name();
-        write!(f, "{name}")
+        f.write_str(self.name())
+    }
+}
+
+impl fmt::Display for Particulars {
+    ghost output = { λ p. Some (refusal_text p.number p.name.now p.layer p.place p.units) };
+
+    fn fmt<W: fmt::Write>(&self, f: &mut fmt::Formatter<W>) -> fmt::Result {
+        let Particulars {
+            number,
+            name,
+            layer,
+            place,
+            units,
+        } = *self;
+        write!(f, "refused {number} {name} layer={layer} place={place}")?;
+        match units {
+            Some(Units { wanted, free }) => write!(f, " wanted={wanted} free={free}"),
+            None => Ok(()),
+        }
     }
 }
 
@@ -109,16 +141,6 @@ impl fmt::Display for StoreFault {
     ghost output = { λ x. Some (printed x) };
 
     fn fmt<W: fmt::Write>(&self, f: &mut fmt::Formatter<W>) -> fmt::Result {
-        let number = self.number();
-        let name = self.name();
-        let layer = self.layer();
-        let place = self.place();
-        match self.units() {
-            Some(Units { wanted, free }) => write!(
-                f,
-                "refused {number} {name} layer={layer} place={place} wanted={wanted} free={free}"
-            ),
-            None => write!(f, "refused {number} {name} layer={layer} place={place}"),
-        }
+        write!(f, "{}", self.particulars())
     }
 }

@@ -11,7 +11,7 @@ mod blocks;
 mod fault;
 
 pub use blocks::{close_gap, copy_front};
-pub use fault::{Layer, StoreFault, Units};
+pub use fault::{Layer, Particulars, StoreFault, Units};
 
 // The longest message, in bytes.
 pub const MAX_LENGTH: usize = 128;
