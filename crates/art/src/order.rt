@@ -18,13 +18,15 @@ pub trait Order {
 }
 
 // The smaller deadline goes before.
-#[derive(Clone, Copy)]
+#[derive(Clone, Copy, Debug, Default, PartialEq, Eq)]
 pub struct DeadlineOrder;
 
 // The smaller level goes before.
-#[derive(Clone, Copy)]
+#[derive(Clone, Copy, Debug, Default, PartialEq, Eq)]
 pub struct LevelOrder;
 
+// The two impls differ in a field alone. Told once, the field would be a trait of its own with a ghost member,
+// and each order still a type with an impl: longer than these two.
 impl Order for DeadlineOrder {
     ghost before = { by_deadline };
 

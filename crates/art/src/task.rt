@@ -2,14 +2,14 @@
 use answers::{MailboxNumber, Status, TaskNumber};
 
 // What an order of urgency goes by.
-#[derive(Clone, Copy)]
+#[derive(Clone, Copy, Debug, PartialEq, Eq)]
 pub struct Urgency {
     pub deadline: u32,
     pub level: u8,
 }
 
 // What a task does.
-#[derive(Clone, Copy)]
+#[derive(Clone, Copy, Debug, PartialEq, Eq)]
 pub enum Activity {
     // Stands in the ready list.
     Ready,
@@ -29,7 +29,7 @@ pub enum Activity {
 }
 
 // The answer that a task has yet to collect.
-#[derive(Clone, Copy)]
+#[derive(Clone, Copy, Debug, PartialEq, Eq)]
 pub enum Due {
     // A sender's, for the message that it waited with.
     Sent { status: Status, message: u32 },
@@ -40,7 +40,7 @@ pub enum Due {
 }
 
 // What can end a task's waiting or sleep.
-#[derive(Clone, Copy)]
+#[derive(Clone, Copy, Debug, PartialEq, Eq)]
 pub enum Event {
     // A message is handed over: the one that a receiver is given, or the one that a sender waits with.
     HandOver { message: u32 },
@@ -50,7 +50,7 @@ pub enum Event {
     Tick { counter: u32 },
 }
 
-#[derive(Clone, Copy)]
+#[derive(Clone, Copy, Debug, PartialEq, Eq)]
 pub struct Task {
     pub urgency: Urgency,
     pub activity: Activity,
@@ -58,7 +58,7 @@ pub struct Task {
 }
 
 // A queued message, and the task that waits with it, if one does.
-#[derive(Clone, Copy)]
+#[derive(Clone, Copy, Debug, PartialEq, Eq)]
 pub struct Message {
     pub number: u32,
     pub sender: Option<TaskNumber>,

@@ -76,7 +76,7 @@ impl StoreFault {
         }
     }
 
-    // Each column by its name: methods of the type itself, since a trait for both types would have to be imported by callers.
+    // The columns by their names, on both types alike: a method of a trait would ask callers to import it.
     pub fn number(&self) -> u8
         ensures { result ≡ number_of self.now }
     {
