@@ -3,6 +3,7 @@ ghost use Rattle.std.specs.Prelude.{◌≡◌, Some};
 ghost use Rattle.refusals.specs.Refusals.{number_of, name_of, layer_of, place_of, units_of, printed, told, store_told};
 
 use answers::{MailboxNumber, TaskNumber};
+use std::error::Error;
 use std::fmt;
 use store::{Layer, Particulars, StoreFault, Units};
 
@@ -120,3 +121,5 @@ impl fmt::Display for Refusal {
         write!(f, "{}", self.particulars())
     }
 }
+
+impl Error for Refusal {}

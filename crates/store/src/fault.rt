@@ -2,6 +2,7 @@
 ghost use Rattle.std.specs.Prelude.{◌≡◌, Some};
 ghost use Rattle.store.specs.Refusal.{number_of, name_of, layer_of, place_of, units_of, layer_text, refusal_text, printed};
 
+use std::error::Error;
 use std::fmt;
 
 // The layer that refuses.
@@ -144,3 +145,5 @@ impl fmt::Display for StoreFault {
         write!(f, "{}", self.particulars())
     }
 }
+
+impl Error for StoreFault {}
