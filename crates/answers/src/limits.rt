@@ -1,4 +1,5 @@
 // The numbers that bound tasks and mailboxes.
+// Numbers are aliases and no types of their own, since a call takes any and refuses those out of bounds.
 
 // A task by its number: 1 to LAST_TASK, and 0 for the idle task.
 pub type TaskNumber = u8;

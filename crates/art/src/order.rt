@@ -25,8 +25,7 @@ pub struct DeadlineOrder;
 #[derive(Clone, Copy, Debug, Default, PartialEq, Eq)]
 pub struct LevelOrder;
 
-// The two impls differ in a field alone. Told once, the field would be a trait of its own with a ghost member,
-// and each order still a type with an impl: longer than these two.
+// Two impls that differ in a field: a trait that tells the field, with its ghost member, would be longer than they are.
 impl Order for DeadlineOrder {
     ghost before = { by_deadline };
 

@@ -29,36 +29,36 @@ mod tests {
     // One of each layer, and each place.
     #[test]
     fn refusals_print(rt: HostRuntime) -> Result<(), Fail> {
-        prints(
-            &rt,
-            Refusal::AnswerDue { task: 5 },
-            "refused 1 ANSWER_DUE layer=kernel place=5",
-        )?;
-        prints(
-            &rt,
-            Refusal::BadShape { given: 31 },
-            "refused 6 BAD_SHAPE layer=kernel place=31",
-        )?;
-        prints(
-            &rt,
-            Refusal::NoMailbox { mailbox: 3 },
-            "refused 8 NO_MAILBOX layer=mailbox place=3",
-        )?;
-        prints(
-            &rt,
-            Refusal::ShortBuffer { mailbox: 0 },
-            "refused 11 SHORT_BUFFER layer=mailbox place=0",
-        )?;
-        prints(
-            &rt,
-            Refusal::ShortCollect { task: 63 },
-            "refused 11 SHORT_BUFFER layer=kernel place=63",
-        )?;
-        prints(
-            &rt,
-            Refusal::NumbersSpent { task: 1 },
-            "refused 16 NUMBERS_SPENT layer=kernel place=1",
-        )
+        let cases = [
+            (
+                Refusal::AnswerDue { task: 5 },
+                "refused 1 ANSWER_DUE layer=kernel place=5",
+            ),
+            (
+                Refusal::BadShape { given: 31 },
+                "refused 6 BAD_SHAPE layer=kernel place=31",
+            ),
+            (
+                Refusal::NoMailbox { mailbox: 3 },
+                "refused 8 NO_MAILBOX layer=mailbox place=3",
+            ),
+            (
+                Refusal::ShortBuffer { mailbox: 0 },
+                "refused 11 SHORT_BUFFER layer=mailbox place=0",
+            ),
+            (
+                Refusal::ShortCollect { task: 63 },
+                "refused 11 SHORT_BUFFER layer=kernel place=63",
+            ),
+            (
+                Refusal::NumbersSpent { task: 1 },
+                "refused 16 NUMBERS_SPENT layer=kernel place=1",
+            ),
+        ];
+        for (refusal, text) in cases {
+            prints(&rt, refusal, text)?;
+        }
+        Ok(())
     }
 
     #[test]
@@ -66,15 +66,14 @@ mod tests {
         let units = Units { wanted: 1, free: 0 };
         let full = StoreFault::StoreFull { message: 71, units };
         let text = "refused 20 STORE_FULL layer=store place=71 wanted=1 free=0";
+        prints(&rt, full, text)?;
         prints(&rt, Refusal::from(full), text)?;
         let held = StoreFault::Held {
             message: 4294967295,
         };
-        prints(
-            &rt,
-            Refusal::from(held),
-            "refused 18 HELD layer=store place=4294967295",
-        )
+        let text = "refused 18 HELD layer=store place=4294967295";
+        prints(&rt, held, text)?;
+        prints(&rt, Refusal::from(held), text)
     }
 
     #[test]
@@ -89,22 +88,21 @@ mod tests {
         let late = Answer {
             status: Status::DeadlineReached,
             message: Some(8),
-            length: None,
-            displaced: None,
+            ..blocked
         };
         prints(&rt, late, "DEADLINE_REACHED message=8")?;
         let brought = Answer {
             status: Status::Ok,
             message: Some(7),
             length: Some(2),
-            displaced: None,
+            ..blocked
         };
         prints(&rt, brought, "OK message=7 length=2")?;
         let displacing = Answer {
             status: Status::Ok,
             message: Some(9),
-            length: None,
             displaced: Some(7),
+            ..blocked
         };
         prints(&rt, displacing, "OK message=9 displaced=7")
     }
