@@ -24,6 +24,13 @@ impl<T: Copy, const N: usize> FixedList<T, N> {
         length
     }
 
+    // The items, first to last.
+    pub fn as_slice(&self) -> &[T]
+        ensures { result.now ≡ items self.now }
+    {
+        &self.slots[..self.len]
+    }
+
     // The item at a place.
     pub fn at(&self, i: usize) -> T
         requires { i < length (items self.now) }

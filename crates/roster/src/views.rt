@@ -30,6 +30,13 @@ impl Roster {
         }
     }
 
+    // The numbers of the ready list, the running task first.
+    pub fn ready(&self) -> &[TaskNumber]
+        ensures { result.now ≡ ready_in self.now }
+    {
+        self.ready.as_slice()
+    }
+
     // How many numbers the ready list has.
     pub fn ready_len(&self) -> usize
         ensures { result ≡ length (ready_in self.now) }
