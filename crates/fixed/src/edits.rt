@@ -1,5 +1,5 @@
 // What is done with such a list, by its items.
-ghost use Rattle.std.specs.Prelude.{◌≡◌, ◌<◌, ◌≤◌, [], ◌∷◌, ◌++◌, length, slice_index_or};
+ghost use Rattle.std.specs.Prelude.{◌≡◌, ◌<◌, ◌≤◌, [], ◌∷◌, ◌++◌, drop, length, slice_index_or};
 ghost use Rattle.fixed.specs.Items.{items};
 ghost use Rattle.std.specs.List.{insert, remove};
 
@@ -20,8 +20,7 @@ impl<T: Copy, const N: usize> FixedList<T, N> {
     pub fn len(&self) -> usize
         ensures { result ≡ length (items self.now) }
     {
-        let length = self.len;
-        length
+        self.as_slice().len()
     }
 
     // The items, first to last.
@@ -36,15 +35,7 @@ impl<T: Copy, const N: usize> FixedList<T, N> {
         requires { i < length (items self.now) }
         ensures { (d : T) → result ≡ slice_index_or (items self.now) i d }
     {
-        self.read(i)
-    }
-
-    // How `at` does it.
-    fn read(&self, i: usize) -> T
-        requires { i < length (items self.now) }
-        ensures { (d : T) → result ≡ slice_index_or (items self.now) i d }
-    {
-        self.slots[i]
+        self.as_slice()[i]
     }
 
     // One item more, at the end.
@@ -52,62 +43,38 @@ impl<T: Copy, const N: usize> FixedList<T, N> {
         requires { length (items self.old) < N }
         ensures { items self.new ≡ items self.old ++ (x ∷ []) }
     {
-        self.append(x);
-    }
-
-    // How `push` does it.
-    fn append(&mut self, x: T)
-        requires { length (items self.old) < N }
-        ensures { items self.new ≡ items self.old ++ (x ∷ []) }
-    {
-        let at = self.len;
-        self.slots[at] = x;
-        self.len = at + 1;
+        self.slots[self.len] = x;
+        self.len += 1;
     }
 
     // One item more, at a place; those from there on move up.
+    #[tactic(auto, using(crate::proofs::Moves::insert_shifted))]
     pub fn insert(&mut self, i: usize, x: T)
         requires place { i ≤ length (items self.old) }
         requires room { length (items self.old) < N }
         ensures { items self.new ≡ insert (items self.old) i x }
     {
-        self.open_gap(i, x);
-    }
-
-    // How `insert` does it.
-    fn open_gap(&mut self, i: usize, x: T)
-        requires place { i ≤ length (items self.old) }
-        requires room { length (items self.old) < N }
-        ensures { items self.new ≡ insert (items self.old) i x }
-    {
-        let last = self.len;
-        let mut carried = x;
-        for k in i..last {
-            let next = self.slots[k];
-            self.slots[k] = carried;
-            carried = next;
-        }
-        self.slots[last] = carried;
-        self.len = last + 1;
+        self.slots.copy_within(i..self.len, i + 1);
+        self.slots[i] = x;
+        self.len += 1;
     }
 
     // The item at a place leaves; those behind it move down.
+    #[tactic(auto, using(crate::proofs::Moves::remove_shifted))]
     pub fn remove(&mut self, i: usize)
         requires { i < length (items self.old) }
         ensures { items self.new ≡ remove (items self.old) i }
     {
-        self.close_gap(i);
+        self.slots.copy_within(i + 1..self.len, i);
+        self.len -= 1;
     }
 
-    // How `remove` does it.
-    fn close_gap(&mut self, i: usize)
-        requires { i < length (items self.old) }
-        ensures { items self.new ≡ remove (items self.old) i }
+    // The first item leaves, if there is one.
+    pub fn remove_first(&mut self)
+        ensures { items self.new ≡ drop 1 (items self.old) }
     {
-        let last = self.len - 1;
-        for k in i..last {
-            self.slots[k] = self.slots[k + 1];
+        if self.len > 0 {
+            self.remove(0);
         }
-        self.len = last;
     }
 }

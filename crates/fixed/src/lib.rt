@@ -7,6 +7,9 @@ mod edits;
 
 use std::alloc::AllocError;
 
+// Not the kit's `ArrayVec`, which isn't `Copy` and needs `T: Default` for the places that are not in use.
+// No `impl Model`: for a `Copy` type it needs an inverse of the view, and the items forget what stands in those places.
+#[derive(Copy)]
 pub struct FixedList<T, const N: usize> {
     slots: [T; N],
     len: usize,
@@ -14,8 +17,7 @@ pub struct FixedList<T, const N: usize> {
     ghost within: { len ≤ N },
 }
 
-impl<T: Copy, const N: usize> Copy for FixedList<T, N> {}
-
+// Written out: a derive of `Clone` is refused over ghost fields.
 impl<T: Copy, const N: usize> Clone for FixedList<T, N> {
     ghost is_clone = { λ x y. y ≡ x };
 
