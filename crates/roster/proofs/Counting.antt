@@ -1,7 +1,7 @@
--- How the count of ready tasks goes with a write to their table, and the length of a list with an insertion.
-use Rattle.std.proofs.Common.{◌≡◌, ℕ, zero, suc, ◌+◌, ◌<◌, ◌≤◌, Bool, true, false, cond, List, [], ◌∷◌, length, get_or, set, None, Option, ap, ◌∙◌, arith}
-use Rattle.std.specs.List.{insert}
-use Rattle.std.proofs.lemmas.List.Edits.{length-insert}
+-- How the count of ready tasks goes with a write to their table.
+use Rattle.std.proofs.Common.{◌≡◌, ℕ, zero, suc, ◌+◌, ◌<◌, ◌≤◌, Bool, true, false, cond, List, [], ◌∷◌, length, get_or, set, None, Option, refl, ap, ◌∙◌, ⊎_elim, arith}
+use Rattle.std.proofs.lemmas.Bool.{cases_lt}
+use Rattle.std.proofs.lemmas.List.{set_past}
 use Rattle.art.specs.declared.task.Task.{Task}
 use Rattle.roster.specs.Places.{stands_ready, ready_count}
 
@@ -26,23 +26,20 @@ pub count_le : (xs : List (Option Task)) → ready_count xs ≤ length xs
 count_le [] = omega arith
 count_le (x ∷ xs) = omega (arith, count_le xs, weight_le (stands_ready x))
 
--- a table whose task t has become v
-module _ (xs ys : List (Option Task)) (t : ℕ) (v : Option Task) (h : t < length xs) (e : ys ≡ set xs t v) where
-  count_written : ready_count ys + weight (stands_ready (get_or xs t None)) ≡ ready_count xs + weight (stands_ready v)
-  count_written = ap (λ zs. ready_count zs + weight (stands_ready (get_or xs t None))) e ∙ count_set xs t v h
+-- a task that was not ready becomes ready
+pub count_more : (xs : List (Option Task)) (t : ℕ) (v : Option Task) → t < length xs → stands_ready (get_or xs t None) ≡ false → stands_ready v ≡ true →
+    ready_count (set xs t v) ≡ ready_count xs + 1
+count_more xs t v h p q = omega (arith, count_set xs t v h, ap weight p, ap weight q)
 
-  -- a task that was not ready becomes ready
-  pub count_more : stands_ready (get_or xs t None) ≡ false → stands_ready v ≡ true → ready_count ys ≡ ready_count xs + 1
-  count_more p q = omega (arith, count_written, ap weight p, ap weight q)
+-- a task stays ready, or stays not ready
+pub count_same : (xs : List (Option Task)) (t : ℕ) (v : Option Task) → stands_ready v ≡ stands_ready (get_or xs t None) → ready_count (set xs t v) ≡ ready_count xs
+count_same xs t v p =
+    ⊎_elim (λ h. omega (arith, count_set xs t v h, ap weight p)) (λ h. ap ready_count (set_past xs t v h)) (cases_lt t (length xs))
 
-  -- a task stays ready, or stays not ready
-  pub count_same : stands_ready v ≡ stands_ready (get_or xs t None) → ready_count ys ≡ ready_count xs
-  count_same p = omega (arith, count_written, ap weight p)
-
-  -- whatever becomes of one task, at most one is ready no longer
-  pub count_less : ready_count xs ≤ ready_count ys + 1
-  count_less = omega (arith, count_written, weight_le (stands_ready (get_or xs t None)))
-
--- a list with one number more
-pub longer : (xs ys : List ℕ) (i t : ℕ) → i ≤ length xs → ys ≡ insert xs i t → length ys ≡ length xs + 1
-longer xs ys i t h e = ap length e ∙ length-insert xs i t h
+-- whatever becomes of one task, at most one is ready no longer
+pub count_less : (xs : List (Option Task)) (t : ℕ) (v : Option Task) → ready_count (set xs t v) < ready_count xs → ready_count (set xs t v) + 1 ≡ ready_count xs
+count_less xs t v l =
+    ⊎_elim
+    (λ h. omega (arith, count_set xs t v h, weight_le (stands_ready (get_or xs t None))))
+    (λ h. absurd (omega (arith, ap ready_count (set_past xs t v h))))
+    (cases_lt t (length xs))

@@ -1,9 +1,9 @@
 // What changes a roster: tasks start, stop and end, and numbers enter and leave the ready list.
-ghost use Rattle.std.specs.Prelude.{◌≡◌, ◌<◌, ◌≤◌, true, false, [], ◌∷◌, length, Some, None};
+ghost use Rattle.std.specs.Prelude.{◌≡◌, ◌-◌, ◌<◌, ◌≤◌, true, false, [], ◌∷◌, length, is_some, Some, None, slice_set};
 ghost use Rattle.std.specs.List.{insert};
 ghost use Rattle.art.specs.State.{changed, first, idle_task};
 ghost use Rattle.art.specs.Verbs.{doing, removed, settled, with_deadline};
-ghost use Rattle.roster.specs.Places.{is_ready, stands_ready};
+ghost use Rattle.roster.specs.Places.{is_ready, ready_count, stands_ready};
 ghost use Rattle.roster.specs.View.{HasRoom, ready_in, tasks_in};
 
 use crate::place::{idle_task, write};
@@ -25,6 +25,8 @@ impl Roster {
     }
 
     // A task that is not ready becomes the ready task x, and has yet to enter the list.
+    // It asks for a number that has a place, since x is there afterwards.
+    #[tactic(auto, using(crate::proofs::Counting::count_more))]
     pub fn start(&mut self, t: TaskNumber, x: Task)
         requires number { t < 64 }
         requires before { stands_ready (tasks_in self.old t) ≡ false }
@@ -33,10 +35,11 @@ impl Roster {
         ensures list { ready_in self.new ≡ ready_in self.old }
         ensures room { HasRoom self.new }
     {
-        write(&mut self.tasks, t, Some(x));
+        self.replace(t, Some(x));
     }
 
     // A number enters the list at a place; those from there on move up.
+    #[tactic(auto, using(crate::proofs::Counting::count_le))]
     pub fn insert(&mut self, i: usize, t: TaskNumber)
         requires place { i ≤ length (ready_in self.old) }
         requires room { HasRoom self.old }
@@ -47,92 +50,77 @@ impl Roster {
     }
 
     // The running task leaves the list to wait or to sleep.
+    #[tactic(auto, using(crate::proofs::Counting::count_less))]
     pub fn stop(&mut self, a: Activity)
-        requires { 0 < first (ready_in self.old) }
         ensures tasks { tasks_in self.new ≡ changed (tasks_in self.old) (first (ready_in self.old)) (doing a (tasks_in self.old (first (ready_in self.old)))) }
         ensures list { ready_in self.new ≡ removed (first (ready_in self.old)) (ready_in self.old) }
     {
-        let t = self.running();
-        let found = self.task(t);
-        self.leave();
-        if let Some(x) = found {
-            self.replace(t, Some(Task { activity: a, ..x }));
-        }
+        let t = self.leave();
+        let stopped = self.task(t).map(|x| Task { activity: a, ..x });
+        self.replace(t, stopped);
     }
 
     // The running task ends.
+    #[tactic(auto, using(crate::proofs::Counting::count_less))]
     pub fn finish(&mut self)
-        requires { 0 < first (ready_in self.old) }
         ensures tasks { tasks_in self.new ≡ changed (tasks_in self.old) (first (ready_in self.old)) None }
         ensures list { ready_in self.new ≡ removed (first (ready_in self.old)) (ready_in self.old) }
     {
-        let t = self.running();
-        let found = self.task(t);
-        self.leave();
-        if found.is_some() {
-            self.replace(t, None);
-        }
+        let t = self.leave();
+        self.replace(t, None);
     }
 
     // The running task has collected its answer.
+    #[tactic(auto, using(crate::proofs::Counting::count_same))]
     pub fn settle(&mut self)
         ensures tasks { tasks_in self.new ≡ changed (tasks_in self.old) (first (ready_in self.old)) (settled (tasks_in self.old (first (ready_in self.old)))) }
         ensures list { ready_in self.new ≡ ready_in self.old }
     {
         let t = self.running();
-        if let Some(x) = self.task(t) {
-            self.amend(t, Task { due: None, ..x });
-        }
+        let settled = self.task(t).map(|x| Task { due: None, ..x });
+        self.replace(t, settled);
     }
 
     // The running task leaves the list with another deadline, and has yet to enter it again.
+    // It asks for a task that runs, since the room is that of the number that leaves.
+    #[tactic(auto, using(crate::proofs::Counting::count_same))]
     pub fn defer(&mut self, deadline: u32)
         requires { 0 < first (ready_in self.old) }
         ensures tasks { tasks_in self.new ≡ changed (tasks_in self.old) (first (ready_in self.old)) (with_deadline deadline (tasks_in self.old (first (ready_in self.old)))) }
         ensures list { ready_in self.new ≡ removed (first (ready_in self.old)) (ready_in self.old) }
         ensures room { HasRoom self.new }
     {
-        let t = self.running();
-        let found = self.task(t);
-        self.leave();
-        if let Some(x) = found {
-            let urgency = Urgency {
+        let t = self.leave();
+        let deferred = self.task(t).map(|x| Task {
+            urgency: Urgency {
                 deadline,
-                level: x.urgency.level,
-            };
-            self.amend(t, Task { urgency, ..x });
-        }
+                ..x.urgency
+            },
+            ..x
+        });
+        self.replace(t, deferred);
     }
 
-    // The running task leaves the list.
-    fn leave(&mut self)
-        requires { 0 < first (ready_in self.old) }
+    // The running task leaves the list, if one stands there; its number.
+    fn leave(&mut self) -> TaskNumber
+        ensures number { result ≡ first (ready_in self.old) }
         ensures table { self.new.tasks ≡ self.old.tasks }
-        ensures tasks { tasks_in self.new ≡ tasks_in self.old }
         ensures list { ready_in self.new ≡ removed (first (ready_in self.old)) (ready_in self.old) }
-        ensures room { HasRoom self.new }
+        ensures length { length (ready_in self.new) ≡ length (ready_in self.old) - 1 }
     {
-        self.ready.remove(0);
+        let t = self.running();
+        self.ready.remove_first();
+        t
     }
 
-    // Whatever becomes of a task, where the list is shorter than it might be.
+    // Whatever becomes of a task, where the list stays covered.
     fn replace(&mut self, t: TaskNumber, x: Option<Task>)
-        requires number { t < 64 }
-        requires room { HasRoom self.old }
+        requires number { is_some x ≡ true → t < 64 }
+        requires covered { length (ready_in self.old) ≤ ready_count (slice_set self.old.tasks t x) }
+        ensures table { self.new.tasks ≡ slice_set self.old.tasks t x }
         ensures tasks { tasks_in self.new ≡ changed (tasks_in self.old) t x }
         ensures list { ready_in self.new ≡ ready_in self.old }
     {
         write(&mut self.tasks, t, x);
-    }
-
-    // A task that stays ready, or stays not ready, changes.
-    fn amend(&mut self, t: TaskNumber, x: Task)
-        requires number { t < 64 }
-        requires same { is_ready x.activity ≡ stands_ready (tasks_in self.old t) }
-        ensures tasks { tasks_in self.new ≡ changed (tasks_in self.old) t (Some x) }
-        ensures list { ready_in self.new ≡ ready_in self.old }
-        ensures room { HasRoom self.old → HasRoom self.new }
-    {
-        write(&mut self.tasks, t, Some(x));
     }
 }

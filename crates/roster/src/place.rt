@@ -1,5 +1,5 @@
 // One place of the table, and what stands in the first.
-ghost use Rattle.std.specs.Prelude.{◌≡◌, ◌<◌, length, slice_set};
+ghost use Rattle.std.specs.Prelude.{◌≡◌, slice_set};
 ghost use Rattle.art.specs.State.{idle_task};
 
 use art::{Activity, LAST_LEVEL, Task, TaskNumber, Urgency};
@@ -18,10 +18,13 @@ pub(crate) fn idle_task() -> Task
     }
 }
 
-// Whatever becomes of the task of a number.
+// Whatever becomes of the task of a number, where it has a place.
 pub(crate) fn write(tasks: &mut [Option<Task>], t: TaskNumber, x: Option<Task>)
-    requires { t < length tasks.old }
     ensures { tasks.new ≡ slice_set tasks.old t x }
 {
-    tasks[t as usize] = x;
+    // By index: the contract of a slice's `get_mut` doesn't tell what a write through it leaves.
+    let place = usize::from(t);
+    if place < tasks.len() {
+        tasks[place] = x;
+    }
 }

@@ -4,7 +4,7 @@ ghost use Rattle.art.specs.State.{first};
 ghost use Rattle.roster.specs.View.{ready_in, tasks_in};
 
 use crate::Roster;
-use art::{LAST_TASK, Task, TaskNumber};
+use art::{Task, TaskNumber};
 
 impl Roster {
     // The task of a number, if one lives.
@@ -12,22 +12,14 @@ impl Roster {
         ensures value { result ≡ tasks_in self.now t }
         ensures below { is_some result ≡ true → t < 64 }
     {
-        if t <= LAST_TASK {
-            self.tasks[t as usize]
-        } else {
-            None
-        }
+        self.tasks.get(usize::from(t)).copied().flatten()
     }
 
     // The running task: the first of the ready list.
     pub fn running(&self) -> TaskNumber
         ensures { result ≡ first (ready_in self.now) }
     {
-        if self.ready_len() > 0 {
-            self.ready_at(0)
-        } else {
-            0
-        }
+        self.ready().first().copied().unwrap_or(0)
     }
 
     // The numbers of the ready list, the running task first.
