@@ -17,7 +17,7 @@ pub struct FixedList<T, const N: usize> {
     ghost within: { len ≤ N },
 }
 
-// Written out: a derive of `Clone` is refused over ghost fields.
+// Written out: a derive of `Clone` is refused over ghost fields and a type parameter.
 impl<T: Copy, const N: usize> Clone for FixedList<T, N> {
     ghost is_clone = { λ x y. y ≡ x };
 

@@ -1,2 +1,2 @@
-mod Places
-mod Rows
+pub mod Places
+pub mod Rows

@@ -1,5 +1,5 @@
 -- What the rows of the table mean to the rules.
-use Rattle.std.specs.Prelude.{◌≡◌, ℕ, ◌<◌, cond, List, map, length, take, Some, None, Option, slice_index_or}
+use Rattle.std.specs.Prelude.{◌≡◌, ℕ, ◌<◌, List, length, Some, None, Option, slice_index_or}
 use Rattle.std.specs.List as gap
 use Rattle.fixed.specs.Items.{items}
 use Rattle.art.specs.State.{Mailbox, changed}
@@ -7,17 +7,18 @@ use Rattle.art.specs.Verbs.{edited}
 use Rattle.mailboxes.specs.declared.Mailbox.{Mailbox as Row}
 use Rattle.mailboxes.specs.declared.Mailboxes.{Mailboxes}
 
--- the mailbox that a row in use stands for
+-- the mailbox that a row stands for
 abbrev pub meaning : Row → Mailbox
 meaning row = record { capacity = row.capacity; size = row.size; messages = items row.messages; receivers = items row.receivers }
 
--- the same, or nothing for a row that is not in use
-abbrev pub mailbox_of : Row → Option Mailbox
-mailbox_of row = cond row.in_use (Some (meaning row)) None
+-- the same, or nothing where there is no row
+abbrev pub mailbox_of : Option Row → Option Mailbox
+mailbox_of None = None
+mailbox_of (Some row) = Some (meaning row)
 
--- the mailboxes of 32 rows, by their numbers
-abbrev pub in_rows : List Row → ℕ → Option Mailbox
-in_rows rows = λ m. slice_index_or (map mailbox_of (take 32 rows)) m None
+-- the mailboxes of rows, by their numbers
+abbrev pub in_rows : List (Option Row) → ℕ → Option Mailbox
+in_rows rows = λ m. mailbox_of (slice_index_or rows m None)
 
 -- the mailboxes of a table, by their numbers
 abbrev pub mailboxes_in : Mailboxes → ℕ → Option Mailbox
@@ -38,9 +39,8 @@ room_for_receiver None = ⊥
 room_for_receiver (Some b) = length b.receivers < 16
 
 -- a row before and after a change of its mailbox
-pub record Edited (f : Mailbox → Mailbox) (before after : Row) : Type 0 where
-  pub flag : after.in_use ≡ before.in_use
-  pub value : meaning after ≡ f (meaning before)
+abbrev pub Edited : (Mailbox → Mailbox) → Row → Row → Type 0
+Edited f before after = meaning after ≡ f (meaning before)
 
 -- a list before and after one leaves it: the place where it stood, if it did
 abbrev pub Gap : {A : Type 0} → List A → List A → Option ℕ → Type 0

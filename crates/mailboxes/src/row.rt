@@ -1,32 +1,21 @@
 // What is read of one mailbox, and what is changed in it.
-ghost use Rattle.std.specs.Prelude.{◌≡◌, ◌≤◌, false, cond, ◌&&◌, [], Some, None};
+ghost use Rattle.std.specs.Prelude.{◌≡◌, ◌≤◌, false, ◌&&◌, [], Some};
 ghost use Rattle.art.specs.Verbs.{fills, is_empty, join_receivers, leave_oldest, leave_receivers, oldest, other_mode, queue, removed, unqueue, unqueue_oldest, unqueued};
 ghost use Rattle.fixed.specs.Items.{items};
-ghost use Rattle.mailboxes.specs.Meaning.{Edited, Gap, mailbox_of, meaning, room_for_message, room_for_receiver};
+ghost use Rattle.mailboxes.specs.Meaning.{Edited, Gap, meaning, room_for_message, room_for_receiver};
 
 use crate::Mailbox;
 use art::{Message, TaskNumber};
 use fixed::FixedList;
 
-// The first item of a list.
-fn first<T: Copy, const N: usize>(list: &FixedList<T, N>) -> Option<T>
-    ensures { result ≡ oldest (items list.now) }
-{
-    if list.len() > 0 {
-        Some(list.at(0))
-    } else {
-        None
-    }
-}
-
+// What is done with the two lists comes in pairs, one line each: their rules have names of their own.
 impl Mailbox {
     // A row with no message and no receiver.
-    pub(crate) fn empty(in_use: bool, capacity: u8, size: u8) -> Self
+    pub(crate) fn empty(capacity: u8, size: u8) -> Self
         requires { capacity ≤ 16 }
-        ensures { mailbox_of result ≡ cond in_use (Some (record { capacity = capacity; size = size; messages = []; receivers = [] })) None }
+        ensures { meaning result ≡ record { capacity = capacity; size = size; messages = []; receivers = [] } }
     {
         Mailbox {
-            in_use,
             capacity,
             size,
             messages: FixedList::empty(Message {
@@ -48,24 +37,21 @@ impl Mailbox {
     pub fn oldest(&self) -> Option<Message>
         ensures { result ≡ oldest (meaning self.now).messages }
     {
-        first(&self.messages)
+        self.messages.as_slice().first().copied()
     }
 
     // The receiver that has waited longest.
     pub fn oldest_receiver(&self) -> Option<TaskNumber>
         ensures { result ≡ oldest (meaning self.now).receivers }
     {
-        first(&self.receivers)
+        self.receivers.as_slice().first().copied()
     }
 
     // Whether there is a message, and its sender's waiting differs from the one given.
     pub fn is_other_mode(&self, waiting: bool) -> bool
         ensures { result ≡ other_mode waiting (oldest (meaning self.now).messages) }
     {
-        match self.oldest() {
-            None => false,
-            Some(x) => x.sender.is_some() != waiting,
-        }
+        self.oldest().is_some_and(|x| x.sender.is_some() != waiting)
     }
 
     // Whether there are as many messages as the mailbox has room for.
@@ -73,7 +59,7 @@ impl Mailbox {
         ensures value { result ≡ fills (meaning self.now) (meaning self.now).messages }
         ensures room { result ≡ false → room_for_message (Some (meaning self.now)) }
     {
-        self.messages.len() >= self.capacity as usize
+        self.messages.len() >= usize::from(self.capacity)
     }
 
     // Whether there are as many receivers as the mailbox has room for.
@@ -81,7 +67,7 @@ impl Mailbox {
         ensures value { result ≡ fills (meaning self.now) (meaning self.now).receivers }
         ensures room { result ≡ false → room_for_receiver (Some (meaning self.now)) }
     {
-        self.receivers.len() >= self.capacity as usize
+        self.receivers.len() >= usize::from(self.capacity)
     }
 
     // Whether there is neither a message nor a receiver.
@@ -95,24 +81,14 @@ impl Mailbox {
     fn message_place(&self, n: u32) -> Option<usize>
         ensures { Gap (items self.now.messages) (unqueued n (items self.now.messages)) result }
     {
-        for i in 0..self.messages.len() {
-            if self.messages.at(i).number == n {
-                return Some(i);
-            }
-        }
-        None
+        self.messages.as_slice().iter().position(|x| x.number == n)
     }
 
     // Where task t first stands among the receivers, if it does.
     fn receiver_place(&self, t: TaskNumber) -> Option<usize>
         ensures { Gap (items self.now.receivers) (removed t (items self.now.receivers)) result }
     {
-        for i in 0..self.receivers.len() {
-            if self.receivers.at(i) == t {
-                return Some(i);
-            }
-        }
-        None
+        self.receivers.as_slice().iter().position(|u| *u == t)
     }
 
     // A message comes to the end of the queue.
@@ -128,9 +104,7 @@ impl Mailbox {
         ensures change { Edited unqueue_oldest self.old self.new }
         ensures room { room_for_message (Some (meaning self.new)) }
     {
-        if self.messages.len() > 0 {
-            self.messages.remove(0);
-        }
+        self.messages.remove_first();
     }
 
     // Message n leaves the queue, if it is there.
@@ -154,9 +128,7 @@ impl Mailbox {
     pub(crate) fn leave_oldest(&mut self)
         ensures { Edited leave_oldest self.old self.new }
     {
-        if self.receivers.len() > 0 {
-            self.receivers.remove(0);
-        }
+        self.receivers.remove_first();
     }
 
     // Task t leaves the receivers, if it is there.

@@ -12,7 +12,7 @@ mod moves;
 mod place;
 mod views;
 
-// A place for each task number.
+// A place for each task number. (A constant calls no `usize::from`.)
 const PLACES: usize = LAST_TASK as usize + 1;
 
 #[derive(Drop)]

@@ -1,22 +1,18 @@
--- The walk along the queue finds the message that leaves.
-use Rattle.std.proofs.Common.{eqb, sym, refl, arith}
-use Rattle.std.proofs.lemmas.Bool.{eq-eqb, ne_eqb}
+-- The first with number n is the one that leaves the queue.
+use Rattle.std.proofs.Common.{◌≡◌, eqb, sym, subst, rules, tests}
+use Rattle.std.specs.List.{position}
+use Rattle.std.proofs.lemmas.Iterator.{YieldsList-from_slice}
+use Rattle.std.proofs.lemmas.Iterator.Search.{position_from_yields_List}
 use Rattle.fixed.specs.Items.{items}
 use Rattle.art.specs.Verbs.{unqueued}
-use Rattle.mailboxes.proofs.Places.{place_further, place_found, place_none}
+use Rattle.mailboxes.specs.Meaning.{Gap}
+use Rattle.mailboxes.proofs.Places.{message_at}
 use Rattle.mailboxes.proofs.Mailbox.message_place.Goals as goal
-
-pub returns-then-at-n : goal.returns-then-at-n
-returns-then-at-n c =
-    let n = c.args.n in
-    (omega arith, place_found (λ x. eqb n x.number) (unqueued n) refl (λ x xs. refl) (items c.args.self.now.messages) c.loop-i.i c.loop-i.invariant c.at.result (omega arith) c.at.ensures (eq-eqb n c.at.result.number (sym c.if-at-n.true)))
-
-pub loop-i-preserved : goal.loop-i-preserved
-loop-i-preserved c =
-    let n = c.args.n in
-    place_further (λ x. eqb n x.number) (unqueued n) refl (λ x xs. refl) (items c.args.self.now.messages) c.loop-i.i c.loop-i.invariant c.at.result (omega arith) c.at.ensures (ne_eqb n c.at.result.number (λ e. c.if-at-n.false (sym e)))
 
 pub returns : goal.returns
 returns c =
     let n = c.args.n in
-    place_none (λ x. eqb n x.number) (unqueued n) refl (λ x xs. refl) (items c.args.self.now.messages) c.loop-i.i c.loop-i.invariant (omega arith)
+    let xs = items c.args.self.now.messages in
+    let found : c.position.result ≡ position (λ x. eqb x.number n) xs =
+    position_from_yields_List (λ x. eqb x.number n) _ _ c.position.result c.position.ensures.ran (YieldsList-from_slice xs cc) (λ x b q k. search (rules, tests)) in
+    subst (Gap xs (unqueued n xs)) (sym found) (message_at n xs)

@@ -1,22 +1,18 @@
--- The walk along the receivers finds the task that leaves.
-use Rattle.std.proofs.Common.{eqb, sym, refl, arith}
-use Rattle.std.proofs.lemmas.Bool.{eq-eqb, ne_eqb}
+-- The first t is the one that leaves the receivers.
+use Rattle.std.proofs.Common.{◌≡◌, eqb, sym, subst, rules, tests}
+use Rattle.std.specs.List.{position}
+use Rattle.std.proofs.lemmas.Iterator.{YieldsList-from_slice}
+use Rattle.std.proofs.lemmas.Iterator.Search.{position_from_yields_List}
 use Rattle.fixed.specs.Items.{items}
 use Rattle.art.specs.Verbs.{removed}
-use Rattle.mailboxes.proofs.Places.{place_further, place_found, place_none}
+use Rattle.mailboxes.specs.Meaning.{Gap}
+use Rattle.mailboxes.proofs.Places.{receiver_at}
 use Rattle.mailboxes.proofs.Mailbox.receiver_place.Goals as goal
-
-pub returns-then-at-t : goal.returns-then-at-t
-returns-then-at-t c =
-    let t = c.args.t in
-    (omega arith, place_found (λ u. eqb t u) (removed t) refl (λ u us. refl) (items c.args.self.now.receivers) c.loop-i.i c.loop-i.invariant c.at.result (omega arith) c.at.ensures (eq-eqb t c.at.result (sym c.if-at-t.true)))
-
-pub loop-i-preserved : goal.loop-i-preserved
-loop-i-preserved c =
-    let t = c.args.t in
-    place_further (λ u. eqb t u) (removed t) refl (λ u us. refl) (items c.args.self.now.receivers) c.loop-i.i c.loop-i.invariant c.at.result (omega arith) c.at.ensures (ne_eqb t c.at.result (λ e. c.if-at-t.false (sym e)))
 
 pub returns : goal.returns
 returns c =
     let t = c.args.t in
-    place_none (λ u. eqb t u) (removed t) refl (λ u us. refl) (items c.args.self.now.receivers) c.loop-i.i c.loop-i.invariant (omega arith)
+    let us = items c.args.self.now.receivers in
+    let found : c.position.result ≡ position (λ u. eqb u t) us =
+    position_from_yields_List (λ u. eqb u t) _ _ c.position.result c.position.ensures.ran (YieldsList-from_slice us cc) (λ x b q k. search (rules, tests)) in
+    subst (Gap us (removed t us)) (sym found) (receiver_at t us)
