@@ -17,11 +17,13 @@ impl Roster {
         ensures tasks { tasks_in result ≡ changed (λ _. None) 0 (Some idle_task) }
         ensures list { ready_in result ≡ 0 ∷ [] }
     {
-        let mut tasks = [None; PLACES];
-        tasks[0] = Some(idle_task());
-        let mut ready = FixedList::empty(0);
-        ready.push(0);
-        Roster { tasks, ready }
+        let mut roster = Roster {
+            tasks: [None; PLACES],
+            ready: FixedList::empty(0),
+        };
+        roster.start(0, idle_task());
+        roster.insert(0, 0);
+        roster
     }
 
     // A task that is not ready becomes the ready task x, and has yet to enter the list.
