@@ -47,26 +47,34 @@ impl<T: Copy, const N: usize> FixedList<T, N> {
         self.len += 1;
     }
 
-    // One item more, at a place; those from there on move up.
-    #[tactic(auto, using(crate::proofs::Moves::insert_shifted))]
+    // One item more, at a place; those from there on move up. By a loop: with `copy_within`, which moves blocks of any length
+    // either way, a blocking exchange costs 50 instructions more.
     pub fn insert(&mut self, i: usize, x: T)
         requires place { i ≤ length (items self.old) }
         requires room { length (items self.old) < N }
         ensures { items self.new ≡ insert (items self.old) i x }
     {
-        self.slots.copy_within(i..self.len, i + 1);
-        self.slots[i] = x;
-        self.len += 1;
+        let last = self.len;
+        let mut carried = x;
+        for k in i..last {
+            let next = self.slots[k];
+            self.slots[k] = carried;
+            carried = next;
+        }
+        self.slots[last] = carried;
+        self.len = last + 1;
     }
 
-    // The item at a place leaves; those behind it move down.
-    #[tactic(auto, using(crate::proofs::Moves::remove_shifted))]
+    // The item at a place leaves; those behind it move down, by a loop as in `insert`.
     pub fn remove(&mut self, i: usize)
         requires { i < length (items self.old) }
         ensures { items self.new ≡ remove (items self.old) i }
     {
-        self.slots.copy_within(i + 1..self.len, i);
-        self.len -= 1;
+        let last = self.len - 1;
+        for j in i..last {
+            self.slots[j] = self.slots[j + 1];
+        }
+        self.len = last;
     }
 
     // The first item leaves, if there is one.

@@ -1,7 +1,8 @@
 // A list of at most N items in a fixed table, with no heap: the ready list, queues and receivers are made of it.
+// Also a write to a table where it has the place.
 #![tactic(auto)]
 
-ghost use Rattle.std.specs.Prelude.{◌≡◌, ℕ, ◌≤◌, length};
+ghost use Rattle.std.specs.Prelude.{◌≡◌, ℕ, ◌≤◌, length, slice_set};
 
 mod edits;
 
@@ -25,5 +26,15 @@ impl<T: Copy, const N: usize> Clone for FixedList<T, N> {
 
     fn clone(&self) -> Result<FixedList<T, N>, AllocError> {
         Ok(*self)
+    }
+}
+
+// A write at a place of a table, where it has that place.
+// By index: the contract of a slice's `get_mut` doesn't tell what a write through it leaves.
+pub fn write<T: Copy>(table: &mut [T], place: usize, x: T)
+    ensures { table.new ≡ slice_set table.old place x }
+{
+    if place < table.len() {
+        table[place] = x;
     }
 }

@@ -7,6 +7,7 @@ ghost use Rattle.mailboxes.specs.Meaning.{edited_at, mailbox_of, mailboxes_in, m
 
 use crate::{Mailbox, Mailboxes, ROWS};
 use art::{MailboxNumber, Message, TaskNumber};
+use fixed::write;
 
 impl Mailboxes {
     // No mailbox.
@@ -37,11 +38,7 @@ impl Mailboxes {
         requires { is_some row ≡ true → m < 32 }
         ensures { mailboxes_in self.new ≡ changed (mailboxes_in self.old) m (mailbox_of row) }
     {
-        // By index: the contract of a slice's `get_mut` doesn't tell what a write through it leaves.
-        let place = usize::from(m);
-        if place < ROWS {
-            self.rows[place] = row;
-        }
+        write(&mut self.rows, usize::from(m), row);
     }
 
     // A mailbox opens, with no message and no receiver. It asks for a number that has a row, since it is there afterwards.
@@ -60,7 +57,7 @@ impl Mailboxes {
         self.replace(m, None);
     }
 
-    // A mailbox changes, where it is in use. Not lent by a `find_mut`: no clause yet says what an array's lent element ends as.
+    // A mailbox changes, where it is in use.
     fn edit<F: FnOnce(&mut Mailbox)>(&mut self, m: MailboxNumber, change: F)
         requires { IfSome (slice_index_or self.old.rows m None) (λ row. FnOnceTakesAtMut F.FnOnce change row) }
         ensures { MatchOption (slice_index_or self.old.rows m None) (self.new.rows ≡ self.old.rows) (λ row. (next : _) × FnOnceReturnsAtMut F.FnOnce change row tt next × (self.new.rows ≡ slice_set self.old.rows m (Some next))) }

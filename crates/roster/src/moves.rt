@@ -6,10 +6,10 @@ ghost use Rattle.art.specs.Verbs.{doing, removed, settled, with_deadline};
 ghost use Rattle.roster.specs.Places.{is_ready, ready_count, stands_ready};
 ghost use Rattle.roster.specs.View.{HasRoom, ready_in, tasks_in};
 
-use crate::place::{idle_task, write};
+use crate::place::idle_task;
 use crate::{PLACES, Roster};
 use art::{Activity, Task, TaskNumber, Urgency};
-use fixed::FixedList;
+use fixed::{FixedList, write};
 
 impl Roster {
     // Task 0 alone, which runs.
@@ -123,6 +123,6 @@ impl Roster {
         ensures tasks { tasks_in self.new ≡ changed (tasks_in self.old) t x }
         ensures list { ready_in self.new ≡ ready_in self.old }
     {
-        write(&mut self.tasks, t, x);
+        write(&mut self.tasks, usize::from(t), x);
     }
 }

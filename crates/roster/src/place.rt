@@ -1,8 +1,8 @@
-// One place of the table, and what stands in the first.
-ghost use Rattle.std.specs.Prelude.{◌≡◌, slice_set};
+// What stands in the first place of the table.
+ghost use Rattle.std.specs.Prelude.{◌≡◌};
 ghost use Rattle.art.specs.State.{idle_task};
 
-use art::{Activity, LAST_LEVEL, Task, TaskNumber, Urgency};
+use art::{Activity, LAST_LEVEL, Task, Urgency};
 
 // Task 0: always ready, with the last deadline and level.
 pub(crate) fn idle_task() -> Task
@@ -15,16 +15,5 @@ pub(crate) fn idle_task() -> Task
         },
         activity: Activity::Ready,
         due: None,
-    }
-}
-
-// Whatever becomes of the task of a number, where it has a place.
-pub(crate) fn write(tasks: &mut [Option<Task>], t: TaskNumber, x: Option<Task>)
-    ensures { tasks.new ≡ slice_set tasks.old t x }
-{
-    // By index: the contract of a slice's `get_mut` doesn't tell what a write through it leaves.
-    let place = usize::from(t);
-    if place < tasks.len() {
-        tasks[place] = x;
     }
 }

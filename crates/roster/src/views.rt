@@ -12,7 +12,7 @@ impl Roster {
         ensures value { result ≡ tasks_in self.now t }
         ensures below { is_some result ≡ true → t < 64 }
     {
-        self.tasks.get(usize::from(t)).copied().flatten()
+        *self.tasks.get(usize::from(t))?
     }
 
     // The running task: the first of the ready list.
