@@ -58,8 +58,9 @@ impl Roster {
         ensures list { ready_in self.new ≡ removed (first (ready_in self.old)) (ready_in self.old) }
     {
         let t = self.leave();
-        let stopped = self.task(t).map(|x| Task { activity: a, ..x });
-        self.replace(t, stopped);
+        if let Some(x) = self.task(t) {
+            self.replace(t, Some(Task { activity: a, ..x }));
+        }
     }
 
     // The running task ends.
@@ -79,8 +80,9 @@ impl Roster {
         ensures list { ready_in self.new ≡ ready_in self.old }
     {
         let t = self.running();
-        let settled = self.task(t).map(|x| Task { due: None, ..x });
-        self.replace(t, settled);
+        if let Some(x) = self.task(t) {
+            self.replace(t, Some(Task { due: None, ..x }));
+        }
     }
 
     // The running task leaves the list with another deadline, and has yet to enter it again.
@@ -93,14 +95,13 @@ impl Roster {
         ensures room { HasRoom self.new }
     {
         let t = self.leave();
-        let deferred = self.task(t).map(|x| Task {
-            urgency: Urgency {
+        if let Some(x) = self.task(t) {
+            let urgency = Urgency {
                 deadline,
                 ..x.urgency
-            },
-            ..x
-        });
-        self.replace(t, deferred);
+            };
+            self.replace(t, Some(Task { urgency, ..x }));
+        }
     }
 
     // The running task leaves the list, if one stands there; its number.
