@@ -2,15 +2,15 @@
 // Arguments: the kind of store, what each turn does, the tasks, the turns.
 #![tactic(auto)]
 
-use anyhow::{Context, anyhow};
-use art::LevelOrder;
+use anyhow::anyhow;
+use art::{LAST_TASK, LevelOrder};
 use kernel::{Kernel, init_kernel};
 use packed_store::PackedStore;
 use slot_store::SlotStore;
 use std::env;
+use std::str::FromStr;
 use store::{MAX_LENGTH, Store};
-
-const TOP: u32 = 4294967295;
+use turns::{Arguments, NoSuchTurn, repeat};
 
 #[derive(Clone, Copy)]
 enum Turn {
@@ -18,105 +18,70 @@ enum Turn {
     Exchange,
     // receive_wait, send_wait and collect of 128 bytes, between two tasks.
     BlockingExchange,
+    // A tick that wakes nobody.
     Tick,
 }
 
-fn turn_of(word: &str) -> Option<Turn> {
-    match word {
-        "exchange" => Some(Turn::Exchange),
-        "blocking_exchange" => Some(Turn::BlockingExchange),
-        "tick" => Some(Turn::Tick),
-        _ => None,
+impl FromStr for Turn {
+    type Err = NoSuchTurn;
+
+    fn from_str(word: &str) -> Result<Turn, NoSuchTurn> {
+        match word {
+            "exchange" => Ok(Turn::Exchange),
+            "blocking_exchange" => Ok(Turn::BlockingExchange),
+            "tick" => Ok(Turn::Tick),
+            _ => Err(NoSuchTurn),
+        }
     }
 }
 
-// A kernel with one mailbox and some tasks, by rising level; for ticks they all sleep.
-fn prepared<S: Store>(store: S, tasks: u8, asleep: bool) -> Kernel<S, LevelOrder> {
+// A kernel with one mailbox and some tasks, by rising level.
+fn prepared<S: Store>(store: S, tasks: u8) -> Kernel<S, LevelOrder> {
     let mut start_up = init_kernel(store, LevelOrder, 0);
     let _ = start_up.create_mailbox(0, 1, MAX_LENGTH as u8);
-    for number in 1..64u8 {
-        if number <= tasks {
-            let _ = start_up.create_task(number, TOP, number / 2);
-        }
+    for number in 1..=tasks.min(LAST_TASK) {
+        let _ = start_up.create_task(number, u32::MAX, number / 2);
     }
-    let mut kernel = start_up.run();
-    if asleep {
-        for _ in 0..tasks {
-            let _ = kernel.wait(TOP);
-        }
-    }
-    kernel
+    start_up.run()
 }
 
-// One turn; whether every call of it was accepted.
-fn take_turn<S: Store>(
-    kernel: &mut Kernel<S, LevelOrder>,
-    turn: Turn,
-    bytes: &[u8],
-    buffer: &mut [u8],
-) -> bool {
+// How many turns were accepted whole; for ticks all tasks sleep.
+fn measure<S: Store + Drop>(store: S, turn: Turn, tasks: u8, turns: u32) -> usize {
+    let mut kernel = prepared(store, tasks);
+    let bytes = [7; MAX_LENGTH];
+    let mut buffer = [0; MAX_LENGTH];
     match turn {
-        Turn::Exchange => {
-            kernel.send_no_wait(0, bytes).is_ok() && kernel.receive_no_wait(0, buffer).is_ok()
-        }
-        Turn::BlockingExchange => {
-            kernel.receive_wait(0, buffer).is_ok()
-                && kernel.send_wait(0, bytes).is_ok()
-                && kernel.collect(buffer).is_ok()
-        }
+        Turn::Exchange => repeat(turns, || {
+            kernel.send_no_wait(0, &bytes)?;
+            kernel.receive_no_wait(0, &mut buffer)
+        }),
+        Turn::BlockingExchange => repeat(turns, || {
+            kernel.receive_wait(0, &mut buffer)?;
+            kernel.send_wait(0, &bytes)?;
+            kernel.collect(&mut buffer)
+        }),
         Turn::Tick => {
-            let (readied, _) = kernel.tick();
-            readied == 0
+            for _ in 0..tasks {
+                let _ = kernel.wait(u32::MAX);
+            }
+            repeat(turns, || match kernel.tick() {
+                (0, running) => Ok(running),
+                (readied, _) => Err(readied),
+            })
         }
     }
-}
-
-// How many turns were accepted whole.
-fn repeat<S: Store>(
-    kernel: &mut Kernel<S, LevelOrder>,
-    turn: Turn,
-    turns: u32,
-    bytes: &[u8],
-    buffer: &mut [u8],
-) -> u32 {
-    let mut accepted = 0u32;
-    for _ in 0..turns {
-        if take_turn(kernel, turn, bytes, buffer) {
-            accepted = accepted.saturating_add(1);
-        }
-    }
-    accepted
-}
-
-fn measure<S: Store + Drop>(store: S, turn: Turn, tasks: u8, turns: u32) -> u32 {
-    let mut kernel = prepared(store, tasks, matches!(turn, Turn::Tick));
-    repeat(
-        &mut kernel,
-        turn,
-        turns,
-        &[7; MAX_LENGTH],
-        &mut [0; MAX_LENGTH],
-    )
 }
 
 fn run(rt: &HostRuntime) -> anyhow::Result<()> {
-    let mut words = env::args(rt)?;
-    let _ = words.next();
-    let kind = words.next().context("no kind of store")?;
-    let turn = turn_of(words.next().context("no turn")?.as_str()).context("no such turn")?;
-    let tasks = words
-        .next()
-        .context("no number of tasks")?
-        .as_str()
-        .parse::<u8>()?;
-    let turns = words
-        .next()
-        .context("no number of turns")?
-        .as_str()
-        .parse::<u32>()?;
+    let Arguments {
+        kind,
+        turn,
+        beside,
+        turns,
+    } = Arguments::<Turn, u8>::read(env::args(rt)?, "no number of tasks")?;
     let accepted = match kind.as_str() {
-        "slot" => measure(SlotStore::new(), turn, tasks, turns),
-        "packed" => measure(PackedStore::new(), turn, tasks, turns),
+        "slot" => measure(SlotStore::new(), turn, beside, turns),
+        "packed" => measure(PackedStore::new(), turn, beside, turns),
         _ => return Err(anyhow!("no such store")),
     };
     println!(rt; "accepted {accepted}")?;

@@ -2,11 +2,13 @@
 // Arguments: the kind of store, what each turn does, the messages held beside, the turns.
 #![tactic(auto)]
 
-use anyhow::{Context, anyhow};
+use anyhow::anyhow;
 use packed_store::PackedStore;
 use slot_store::SlotStore;
 use std::env;
-use store::{MAX_LENGTH, Store};
+use std::str::FromStr;
+use store::{MAX_LENGTH, Store, StoreFault};
+use turns::{Arguments, NoSuchTurn, repeat};
 
 #[derive(Clone, Copy)]
 enum Turn {
@@ -16,99 +18,59 @@ enum Turn {
     PutCopyAndDiscard,
 }
 
-fn turn_of(word: &str) -> Option<Turn> {
-    match word {
-        "clear" => Some(Turn::Clear),
-        "put_clear" => Some(Turn::PutAndClear),
-        "put_discard" => Some(Turn::PutAndDiscard),
-        "put_copy_discard" => Some(Turn::PutCopyAndDiscard),
-        _ => None,
+impl FromStr for Turn {
+    type Err = NoSuchTurn;
+
+    fn from_str(word: &str) -> Result<Turn, NoSuchTurn> {
+        match word {
+            "clear" => Ok(Turn::Clear),
+            "put_clear" => Ok(Turn::PutAndClear),
+            "put_discard" => Ok(Turn::PutAndDiscard),
+            "put_copy_discard" => Ok(Turn::PutCopyAndDiscard),
+            _ => Err(NoSuchTurn),
+        }
     }
 }
 
-// One turn; whether every call of it was accepted. Never inlined, so that the compiler cannot make one of many turns.
-#[inline(never)]
-fn take_turn<S: Store>(
-    store: &mut S,
-    turn: Turn,
-    message: u32,
-    bytes: &[u8],
-    buffer: &mut [u8],
-) -> bool {
+// How many turns were accepted whole, beside messages that are held all the while.
+fn measure<S: Store + Drop>(mut store: S, turn: Turn, held: u32, turns: u32) -> usize {
+    let bytes = [7; MAX_LENGTH];
+    let mut buffer = [0; MAX_LENGTH];
+    for message in 0..held {
+        let _ = store.put(message, &bytes);
+    }
     match turn {
-        Turn::Clear => {
+        Turn::Clear => repeat(turns, || -> Result<(), StoreFault> {
             store.clear();
-            true
-        }
-        Turn::PutAndClear => {
-            let put = store.put(message, bytes).is_ok();
+            Ok(())
+        }),
+        Turn::PutAndClear => repeat(turns, || {
+            let put = store.put(held, &bytes);
             store.clear();
             put
-        }
-        Turn::PutAndDiscard => store.put(message, bytes).is_ok() && store.discard(message).is_ok(),
-        Turn::PutCopyAndDiscard => {
-            store.put(message, bytes).is_ok()
-                && store.copy(message, buffer).is_ok()
-                && store.discard(message).is_ok()
-        }
+        }),
+        Turn::PutAndDiscard => repeat(turns, || {
+            store.put(held, &bytes)?;
+            store.discard(held)
+        }),
+        Turn::PutCopyAndDiscard => repeat(turns, || {
+            store.put(held, &bytes)?;
+            store.copy(held, &mut buffer)?;
+            store.discard(held)
+        }),
     }
-}
-
-// How many turns were accepted whole.
-fn repeat<S: Store>(
-    store: &mut S,
-    turn: Turn,
-    held: u32,
-    turns: u32,
-    bytes: &[u8],
-    buffer: &mut [u8],
-) -> u32 {
-    for message in 0..held {
-        let _ = store.put(message, bytes);
-    }
-    let mut accepted = 0u32;
-    for _ in 0..turns {
-        if take_turn(store, turn, held, bytes, buffer) {
-            accepted = accepted.saturating_add(1);
-        }
-    }
-    accepted
 }
 
 fn run(rt: &HostRuntime) -> anyhow::Result<()> {
-    let mut words = env::args(rt)?;
-    let _ = words.next();
-    let kind = words.next().context("no kind of store")?;
-    let turn = turn_of(words.next().context("no turn")?.as_str()).context("no such turn")?;
-    let held = words
-        .next()
-        .context("no number of messages")?
-        .as_str()
-        .parse::<u32>()?;
-    let turns = words
-        .next()
-        .context("no number of turns")?
-        .as_str()
-        .parse::<u32>()?;
-    let bytes = [7u8; MAX_LENGTH];
-    let mut buffer = [0u8; MAX_LENGTH];
+    let Arguments {
+        kind,
+        turn,
+        beside,
+        turns,
+    } = Arguments::<Turn, u32>::read(env::args(rt)?, "no number of messages")?;
     let accepted = match kind.as_str() {
-        "slot" => repeat(
-            &mut SlotStore::new(),
-            turn,
-            held,
-            turns,
-            &bytes,
-            &mut buffer,
-        ),
-        "packed" => repeat(
-            &mut PackedStore::new(),
-            turn,
-            held,
-            turns,
-            &bytes,
-            &mut buffer,
-        ),
+        "slot" => measure(SlotStore::new(), turn, beside, turns),
+        "packed" => measure(PackedStore::new(), turn, beside, turns),
         _ => return Err(anyhow!("no such store")),
     };
     println!(rt; "accepted {accepted}")?;

@@ -1,0 +1,55 @@
+// The command line of a program that counts: the kind of store, what each turn does, how much stands by, the turns.
+use anyhow::Context;
+use std::env::Args;
+use std::error::Error;
+use std::fmt;
+use std::str::FromStr;
+
+#[derive(Drop)]
+pub struct Arguments<T, N> {
+    // The kind of store.
+    pub kind: String,
+    // What each turn does.
+    pub turn: T,
+    // How many messages or tasks stand by.
+    pub beside: N,
+    pub turns: u32,
+}
+
+// A word that names no turn.
+#[derive(Clone, Copy, Debug, PartialEq, Eq)]
+pub struct NoSuchTurn;
+
+impl fmt::Display for NoSuchTurn {
+    fn fmt<W: fmt::Write>(&self, f: &mut fmt::Formatter<W>) -> fmt::Result {
+        write!(f, "no such turn")
+    }
+}
+
+impl Error for NoSuchTurn {}
+
+// The next word, read as a value.
+fn next_value<V: FromStr>(words: &mut Args, missing: &'static str) -> anyhow::Result<V>
+where
+    V::Err: Error,
+{
+    Ok(words.next().context(missing)?.as_str().parse::<V>()?)
+}
+
+impl<T: FromStr + Drop, N: FromStr + Drop> Arguments<T, N>
+where
+    T::Err: Error,
+    N::Err: Error,
+{
+    // Reads a command line; `no_beside` is the error where it ends before that number.
+    pub fn read(mut words: Args, no_beside: &'static str) -> anyhow::Result<Arguments<T, N>> {
+        let _program = words.next();
+        let kind = words.next().context("no kind of store")?;
+        Ok(Arguments {
+            kind,
+            turn: next_value(&mut words, "no turn")?,
+            beside: next_value(&mut words, no_beside)?,
+            turns: next_value(&mut words, "no number of turns")?,
+        })
+    }
+}
