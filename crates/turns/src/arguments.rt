@@ -1,4 +1,8 @@
 // The command line of a program that counts: the kind of store, what each turn does, how much stands by, the turns.
+ghost use Rattle.std.specs.Prelude.{IfOk, IfErr};
+ghost use Rattle.std.specs.Vec.Iter.{into_iter_items};
+ghost use Rattle.turns.specs.Line.{ReadsNext, ReadsNone, Says, SaysTooLittle};
+
 use anyhow::Context;
 use std::env::Args;
 use std::error::Error;
@@ -32,6 +36,8 @@ impl Error for NoSuchTurn {}
 fn next_value<V: FromStr>(words: &mut Args, missing: &'static str) -> anyhow::Result<V>
 where
     V::Err: Error,
+    ensures ok { IfOk result (ReadsNext V.from_str_gives (into_iter_items words.old) (into_iter_items words.new)) }
+    ensures err { IfErr result (λ _. ReadsNone V.from_str_gives (into_iter_items words.old)) }
 {
     Ok(words.next().context(missing)?.as_str().parse::<V>()?)
 }
@@ -41,10 +47,12 @@ where
     T::Err: Error,
     N::Err: Error,
 {
-    // Reads a command line; `no_beside` is the error where it ends before that number.
-    pub fn read(mut words: Args, no_beside: &'static str) -> anyhow::Result<Arguments<T, N>> {
-        let _program = words.next();
-        let kind = words.next().context("no kind of store")?;
+    // Reads a command line, past the program's name; `no_beside` is the error where it ends before that number.
+    pub fn read(mut words: Args, no_beside: &'static str) -> anyhow::Result<Arguments<T, N>>
+        ensures ok { IfOk result (λ a. Says T.from_str_gives N.from_str_gives ⟦<u32 as FromStr>⟧.from_str_gives (into_iter_items words) a.kind a.turn a.beside a.turns) }
+        ensures err { IfErr result (λ _. SaysTooLittle T.from_str_gives N.from_str_gives ⟦<u32 as FromStr>⟧.from_str_gives (into_iter_items words)) }
+    {
+        let kind = words.nth(1).context("no kind of store")?;
         Ok(Arguments {
             kind,
             turn: next_value(&mut words, "no turn")?,
