@@ -1,5 +1,5 @@
 // The command line of a program that counts: the kind of store, what each turn does, how much stands by, the turns.
-ghost use Rattle.std.specs.Prelude.{IfOk, IfErr};
+ghost use Rattle.std.specs.Prelude.{IfOk, IfErr, Some, codes};
 ghost use Rattle.std.specs.Vec.Iter.{into_iter_items};
 ghost use Rattle.turns.specs.Line.{ReadsNext, ReadsNone, Says, SaysTooLittle};
 
@@ -25,6 +25,8 @@ pub struct Arguments<T, N> {
 pub struct NoSuchTurn;
 
 impl fmt::Display for NoSuchTurn {
+    ghost output = { λ _. Some (codes "no such turn") };
+
     fn fmt<W: fmt::Write>(&self, f: &mut fmt::Formatter<W>) -> fmt::Result {
         write!(f, "no such turn")
     }

@@ -1,27 +1,12 @@
 use Rattle.std.proofs.Common.{◌≡◌, ◌∷◌, ◌≤◌, Some, None, length, drop, inl, inr, ap, ◌∙◌}
 use Rattle.std.specs.Vec.Iter.{into_iter_items}
-use Rattle.turns.proofs.Skipping.{at_equal, if_err, no_second, second_is}
+use Rattle.turns.proofs.Skipping.{at_equal, if_err, no_second, says, second_is}
 use Rattle.turns.specs.Line.{ReadsNone}
 use Rattle.turns.proofs.arguments.Arguments.read.Goals as goal
 
 pub returns-clause-ok : goal.returns-clause-ok
 returns-clause-ok g c =
-    let n = rw c.in_ok-kind.ensures at c.nth.ensures.ran in
-    let k = second_is c.args.words c.in_ok-kind.kind c.nth.new.self n.0 n.1.0 n.1.1 n.1.2 n.2 in
-    let t = c.in_ok-next_value.ensures.ok in
-    let b = c.in_ok-next_value-2.ensures.ok in
-    let u = c.in_ok-next_value-3.ensures.ok in
-    record {
-      program = k.0;
-      turn_word = t.0;
-      beside_word = b.0;
-      turns_word = u.0;
-      more = into_iter_items c.next_value-3.new.words;
-      line = k.1 ∙ ap (λ l. k.0 ∷ c.in_ok-kind.kind ∷ l) (t.1 ∙ ap (λ l. t.0 ∷ l) (b.1 ∙ ap (λ l. b.0 ∷ l) u.1));
-      turn_read = t.2;
-      beside_read = b.2;
-      turns_read = u.2;
-    }
+    says _ _ _ c.args.words c.nth.new.self c.next_value.new.words c.next_value-2.new.words c.next_value-3.new.words _ _ _ _ _ c.nth.ensures.ran c.in_ok-kind.ensures c.in_ok-next_value.ensures.ok c.in_ok-next_value-2.ensures.ok c.in_ok-next_value-3.ensures.ok
 
 pub returns-in_err-next_value-clause-err : goal.returns-in_err-next_value-clause-err
 returns-in_err-next_value-clause-err g c =
