@@ -46,7 +46,7 @@ fn prepared<S: Store>(store: S, tasks: u8) -> Kernel<S, LevelOrder> {
 }
 
 // How many turns were accepted whole; for ticks all tasks sleep.
-fn measure<S: Store + Drop>(store: S, turn: Turn, tasks: u8, turns: u32) -> usize {
+fn measure<S: Store + Drop>(store: S, turn: Turn, tasks: u8, turns: u32) -> u32 {
     let mut kernel = prepared(store, tasks);
     let bytes = [7; MAX_LENGTH];
     let mut buffer = [0; MAX_LENGTH];

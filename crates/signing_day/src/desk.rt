@@ -1,4 +1,5 @@
 // Who works in the unit, and how far each has come.
+use crate::book::{Paper, SUBJECTS};
 use art::{MailboxNumber, TaskNumber};
 use std::alloc::{AllocError, Global};
 
@@ -9,16 +10,18 @@ pub const SIGNED: MailboxNumber = 1;
 
 pub const INSPECTED: MailboxNumber = 2;
 
+// What a desk does. The desks stand in one Vec and act alike but for a few calls, so these are cases and no trait.
 #[derive(Clone, Copy)]
 pub enum Role {
-    Intake,
+    // Files orders, for these subjects yet.
+    Intake { orders: &'static [&'static str] },
     Signer,
     Inspector,
     Clerk,
     Clock,
 }
 
-// What a desk does when its task runs next.
+// What a desk does when its task runs next: it is kept from call to call, so it is a case and no closure.
 #[derive(Clone, Copy)]
 pub enum Step {
     // Sets the deadline of the next wait.
@@ -41,67 +44,48 @@ pub struct Desk {
     pub task: TaskNumber,
     pub level: u8,
     pub role: Role,
-    pub step: Step,
     // How many ticks the desk waits at most.
     pub patience: u32,
     // How many ticks it rests after its work.
     pub rest: u32,
-    // An intake's orders: the next, and where they end.
-    pub order: usize,
-    pub last: usize,
+    pub step: Step,
     // Until when it waits now.
     pub deadline: u32,
-    // The certificate in hand.
-    pub paper: [u8; 28],
-}
-
-fn plain_desk(
-    name: &'static str,
-    task: TaskNumber,
-    level: u8,
-    role: Role,
-    patience: u32,
-    rest: u32,
-) -> Desk {
-    Desk {
-        name,
-        task,
-        level,
-        role,
-        step: Step::Prepare,
-        patience,
-        rest,
-        order: 0,
-        last: 0,
-        deadline: 0,
-        paper: [0; 28],
-    }
-}
-
-// An intake desk with two orders.
-fn intake(name: &'static str, task: TaskNumber, patience: u32, order: usize) -> Desk {
-    let plain = plain_desk(name, task, 20, Role::Intake, patience, 1);
-    Desk {
-        order,
-        last: order.wrapping_add(2),
-        ..plain
-    }
+    // The paper in hand.
+    pub paper: Paper,
 }
 
 // A dozen tasks, by rising number from 1.
 pub(crate) fn staff(heap: Global) -> Result<Vec<Desk>, AllocError> {
-    let mut all = Vec::new(heap);
-    all.push(intake("intake-1", 1, 5, 0))?;
-    all.push(intake("intake-2", 2, 5, 2))?;
-    all.push(intake("intake-3", 3, 5, 4))?;
-    all.push(intake("intake-4", 4, 4, 6))?;
-    all.push(plain_desk("signer-1", 5, 10, Role::Signer, 60, 6))?;
-    all.push(plain_desk("signer-2", 6, 10, Role::Signer, 60, 9))?;
-    all.push(plain_desk("inspector-1", 7, 12, Role::Inspector, 60, 0))?;
-    all.push(plain_desk("inspector-2", 8, 12, Role::Inspector, 60, 0))?;
-    all.push(plain_desk("inspector-3", 9, 12, Role::Inspector, 60, 0))?;
-    all.push(plain_desk("directory", 10, 14, Role::Clerk, 80, 0))?;
-    all.push(plain_desk("archive", 11, 14, Role::Clerk, 80, 0))?;
-    all.push(plain_desk("clock", 12, 2, Role::Clock, 0, 10))?;
-    Ok(all)
+    let [first, second, third, fourth] = [0, 2, 4, 6].map(|from| Role::Intake {
+        orders: &SUBJECTS[from..from + 2],
+    });
+    [
+        ("intake-1", 20, first, 5, 1),
+        ("intake-2", 20, second, 5, 1),
+        ("intake-3", 20, third, 5, 1),
+        ("intake-4", 20, fourth, 4, 1),
+        ("signer-1", 10, Role::Signer, 60, 6),
+        ("signer-2", 10, Role::Signer, 60, 9),
+        ("inspector-1", 12, Role::Inspector, 60, 0),
+        ("inspector-2", 12, Role::Inspector, 60, 0),
+        ("inspector-3", 12, Role::Inspector, 60, 0),
+        ("directory", 14, Role::Clerk, 80, 0),
+        ("archive", 14, Role::Clerk, 80, 0),
+        ("clock", 2, Role::Clock, 0, 10),
+    ]
+    .into_iter()
+    .zip(1..)
+    .map(|((name, level, role, patience, rest), task)| Desk {
+        name,
+        task,
+        level,
+        role,
+        patience,
+        rest,
+        step: Step::Prepare,
+        deadline: 0,
+        paper: Paper::BLANK,
+    })
+    .collect(heap)
 }

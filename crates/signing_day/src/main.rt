@@ -6,41 +6,40 @@
 
 mod book;
 mod desk;
-mod work;
+mod office;
 
 use art::LevelOrder;
-use book::Book;
-use desk::{Desk, staff};
-use kernel::{Kernel, StartUp, init_kernel};
+use book::{Book, Paper, Subject};
+use desk::{Desk, INSPECTED, ORDERS, SIGNED, staff};
+use kernel::{StartUp, init_kernel};
+use office::Office;
 use packed_store::PackedStore;
-use work::work;
+use std::io;
 
 // A tick falls behind each call that stands under a `t`.
-const PATTERN: &[u8; 12] = b"...t...t...t";
+const PATTERN: &str = "...t...t...t";
 
 const CALLS: usize = 200;
-
-type Unit = Kernel<PackedStore, LevelOrder>;
 
 // Makes the three mailboxes and the dozen tasks.
 fn open_unit(
     rt: &HostRuntime,
     unit: &mut StartUp<PackedStore, LevelOrder>,
-    desks: &Vec<Desk>,
-) -> anyhow::Result<()> {
+    desks: &[Desk],
+) -> io::Result<()> {
     for (mailbox, capacity, size) in [
-        (desk::ORDERS, 4, 24),
-        (desk::SIGNED, 8, 28),
-        (desk::INSPECTED, 8, 28),
+        (ORDERS, 4, Subject::LENGTH),
+        (SIGNED, 8, Paper::LENGTH),
+        (INSPECTED, 8, Paper::LENGTH),
     ] {
-        if let Err(refusal) = unit.create_mailbox(mailbox, capacity, size) {
+        if let Err(refusal) = unit.create_mailbox(mailbox, capacity, size as u8) {
             println!(rt; "create_mailbox {mailbox}: {refusal}")?;
         }
     }
-    for desk in desks.iter() {
+    for desk in desks {
         let task = desk.task;
         let name = desk.name;
-        match unit.create_task(task, 4294967295, desk.level) {
+        match unit.create_task(task, u32::MAX, desk.level) {
             Ok(_) => println!(rt; "task {task} is {name}")?,
             Err(refusal) => println!(rt; "create_task {task}: {refusal}")?,
         }
@@ -48,55 +47,34 @@ fn open_unit(
     Ok(())
 }
 
-fn tick(rt: &HostRuntime, unit: &mut Unit) -> anyhow::Result<()> {
-    let (readied, running) = unit.tick();
-    let counter = unit.ticks();
-    println!(rt; "tick {counter}: readied={readied} running={running}")?;
-    Ok(())
-}
-
-// The running task makes one call; task 0 makes none.
-fn turn(
-    rt: &HostRuntime,
-    unit: &mut Unit,
-    desks: &mut Vec<Desk>,
-    book: &mut Book,
-) -> anyhow::Result<bool> {
-    let running = unit.running();
-    if running == 0 {
-        return Ok(false);
-    }
-    if let Some(desk) = desks.get_mut(running as usize - 1) {
-        work(rt, unit, desk, book)?;
-    }
-    Ok(true)
-}
-
-fn day(
-    rt: &HostRuntime,
-    unit: &mut Unit,
-    desks: &mut Vec<Desk>,
-    book: &mut Book,
-) -> anyhow::Result<()> {
-    let mut next = 0usize;
-    for _ in 0..CALLS {
-        let called = turn(rt, unit, desks, book)?;
-        if !called || PATTERN[next % 12] == b't' {
-            tick(rt, unit)?;
+// The running task makes one call, and a tick falls where the pattern says so; behind task 0, always.
+fn day(office: &mut Office, desks: &mut [Desk]) -> anyhow::Result<()> {
+    for mark in PATTERN.as_bytes().iter().cycle().take(CALLS) {
+        let running = office.unit.running();
+        let desk = desks.iter_mut().find(|desk| desk.task == running);
+        let ticks = desk.is_none() || *mark == b't';
+        if let Some(desk) = desk {
+            office.work(desk)?;
         }
-        next = next.wrapping_add(1);
+        if ticks {
+            office.tick()?;
+        }
     }
     Ok(())
 }
 
 fn run(rt: &HostRuntime) -> anyhow::Result<()> {
-    println!(rt; "ticks by the pattern ...t...t...t, and whenever task 0 runs")?;
+    println!(rt; "ticks by the pattern {PATTERN}, and whenever task 0 runs")?;
     let mut desks = staff(rt.alloc())?;
-    let mut book = Book::new(rt.alloc());
     let mut start_up = init_kernel(PackedStore::new(), LevelOrder, 1);
     open_unit(rt, &mut start_up, &desks)?;
-    let mut unit = start_up.run();
-    day(rt, &mut unit, &mut desks, &mut book)?;
+    let mut office = Office {
+        rt,
+        unit: start_up.run(),
+        book: Book::new(rt.alloc()),
+    };
+    day(&mut office, &mut desks)?;
+    let Office { unit, book, .. } = office;
     book.show(rt)?;
     let counts = unit.close();
     println!(rt; "{counts}")?;

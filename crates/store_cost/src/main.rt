@@ -33,7 +33,7 @@ impl FromStr for Turn {
 }
 
 // How many turns were accepted whole, beside messages that are held all the while.
-fn measure<S: Store + Drop>(mut store: S, turn: Turn, held: u32, turns: u32) -> usize {
+fn measure<S: Store + Drop>(mut store: S, turn: Turn, held: u32, turns: u32) -> u32 {
     let bytes = [7; MAX_LENGTH];
     let mut buffer = [0; MAX_LENGTH];
     for message in 0..held {
