@@ -20,60 +20,60 @@ use crate::tests::script::Example;
 use crate::tests::start_up::start_up_refuses;
 use crate::tests::store_full::{MEMORY_FULL, SLOTS_FULL};
 use crate::tests::turns::{DEADLINE_TURNS, EQUALS, LEVEL_TURNS};
-use art::{DeadlineOrder, LevelOrder};
+use art::{DeadlineOrder, LevelOrder, Order};
 use packed_store::PackedStore;
 use slot_store::SlotStore;
 use std::process::Abort;
 use std::test::Fail;
+use store::Store;
 
-fn slots_by_deadline(rt: &impl Abort, examples: &[Example]) {
+// Plays each example on a kernel of its own, over such a store and by such an order.
+fn play_all<S: Store + Drop, O: Order + Copy, F: Fn() -> S>(
+    rt: &impl Abort,
+    kind: &'static str,
+    make: F,
+    order: O,
+    examples: &[Example],
+)
+    requires { F.IsAlwaysCallable make }
+{
     for example in examples {
-        play(
-            rt,
-            "slots by deadline",
-            SlotStore::new(),
-            DeadlineOrder,
-            example,
-        );
+        play(rt, kind, make(), order, example);
     }
 }
 
-fn slots_by_level(rt: &impl Abort, examples: &[Example]) {
-    for example in examples {
-        play(rt, "slots by level", SlotStore::new(), LevelOrder, example);
-    }
+fn by_deadline(rt: &impl Abort, examples: &[Example]) {
+    play_all(
+        rt,
+        "slots by deadline",
+        SlotStore::new,
+        DeadlineOrder,
+        examples,
+    );
+    play_all(
+        rt,
+        "packed by deadline",
+        PackedStore::new,
+        DeadlineOrder,
+        examples,
+    );
 }
 
-fn packed_by_deadline(rt: &impl Abort, examples: &[Example]) {
-    for example in examples {
-        play(
-            rt,
-            "packed by deadline",
-            PackedStore::new(),
-            DeadlineOrder,
-            example,
-        );
-    }
-}
-
-fn packed_by_level(rt: &impl Abort, examples: &[Example]) {
-    for example in examples {
-        play(
-            rt,
-            "packed by level",
-            PackedStore::new(),
-            LevelOrder,
-            example,
-        );
-    }
+fn by_level(rt: &impl Abort, examples: &[Example]) {
+    play_all(rt, "slots by level", SlotStore::new, LevelOrder, examples);
+    play_all(
+        rt,
+        "packed by level",
+        PackedStore::new,
+        LevelOrder,
+        examples,
+    );
 }
 
 // Both stores and both orders.
 fn on_every_kind(rt: &impl Abort, examples: &[Example]) {
-    slots_by_deadline(rt, examples);
-    slots_by_level(rt, examples);
-    packed_by_deadline(rt, examples);
-    packed_by_level(rt, examples);
+    by_deadline(rt, examples);
+    by_level(rt, examples);
 }
 
 #[test]
@@ -127,27 +127,41 @@ fn a_start_up_kernel_refuses(rt: HostRuntime) -> Result<(), Fail> {
 #[test]
 fn a_full_slot_store_refuses(rt: HostRuntime) {
     let examples = &SLOTS_FULL;
-    slots_by_deadline(&rt, examples);
-    slots_by_level(&rt, examples);
+    play_all(
+        &rt,
+        "slots by deadline",
+        SlotStore::new,
+        DeadlineOrder,
+        examples,
+    );
+    play_all(&rt, "slots by level", SlotStore::new, LevelOrder, examples);
 }
 
 #[test]
 fn a_full_packed_store_refuses(rt: HostRuntime) {
     let examples = &MEMORY_FULL;
-    packed_by_deadline(&rt, examples);
-    packed_by_level(&rt, examples);
+    play_all(
+        &rt,
+        "packed by deadline",
+        PackedStore::new,
+        DeadlineOrder,
+        examples,
+    );
+    play_all(
+        &rt,
+        "packed by level",
+        PackedStore::new,
+        LevelOrder,
+        examples,
+    );
 }
 
 #[test]
 fn the_smaller_deadline_goes_before(rt: HostRuntime) {
-    let examples = &DEADLINE_TURNS;
-    slots_by_deadline(&rt, examples);
-    packed_by_deadline(&rt, examples);
+    by_deadline(&rt, &DEADLINE_TURNS);
 }
 
 #[test]
 fn the_smaller_level_goes_before(rt: HostRuntime) {
-    let examples = &LEVEL_TURNS;
-    slots_by_level(&rt, examples);
-    packed_by_level(&rt, examples);
+    by_level(&rt, &LEVEL_TURNS);
 }

@@ -14,7 +14,7 @@ pub const INSPECTED: MailboxNumber = 2;
 #[derive(Clone, Copy)]
 pub enum Role {
     // Files orders, for these subjects yet.
-    Intake { orders: &'static [&'static str] },
+    Intake(&'static [&'static str]),
     Signer,
     Inspector,
     Clerk,
@@ -57,14 +57,11 @@ pub struct Desk {
 
 // A dozen tasks, by rising number from 1.
 pub(crate) fn staff(heap: Global) -> Result<Vec<Desk>, AllocError> {
-    let [first, second, third, fourth] = [0, 2, 4, 6].map(|from| Role::Intake {
-        orders: &SUBJECTS[from..from + 2],
-    });
     [
-        ("intake-1", 20, first, 5, 1),
-        ("intake-2", 20, second, 5, 1),
-        ("intake-3", 20, third, 5, 1),
-        ("intake-4", 20, fourth, 4, 1),
+        ("intake-1", 20, Role::Intake(&SUBJECTS[0..2]), 5, 1),
+        ("intake-2", 20, Role::Intake(&SUBJECTS[2..4]), 5, 1),
+        ("intake-3", 20, Role::Intake(&SUBJECTS[4..6]), 5, 1),
+        ("intake-4", 20, Role::Intake(&SUBJECTS[6..8]), 4, 1),
         ("signer-1", 10, Role::Signer, 60, 6),
         ("signer-2", 10, Role::Signer, 60, 9),
         ("inspector-1", 12, Role::Inspector, 60, 0),

@@ -10,11 +10,25 @@ pub type Unit = Kernel<PackedStore, LevelOrder>;
 
 type Reply = Result<Answer, Refusal>;
 
+// The runtime to print by, the kernel and the book, which every desk works with.
 #[derive(Drop)]
 pub struct Office<'a> {
     pub rt: &'a HostRuntime,
     pub unit: Unit,
     pub book: Book,
+}
+
+// A reply as it is printed: the answer, or the refusal.
+#[derive(Clone, Copy)]
+struct Said(Reply);
+
+impl fmt::Display for Said {
+    fn fmt<W: fmt::Write>(&self, f: &mut fmt::Formatter<W>) -> fmt::Result {
+        match self.0 {
+            Ok(answer) => answer.fmt(f),
+            Err(refusal) => refusal.fmt(f),
+        }
+    }
 }
 
 fn status_of(reply: Reply) -> Option<Status> {
@@ -32,15 +46,15 @@ impl Office<'_> {
     // One call by a desk whose task runs.
     pub(crate) fn work(&mut self, desk: &mut Desk) -> anyhow::Result<()> {
         match (desk.step, desk.role) {
-            (Step::Prepare, Role::Intake { orders: [] }) => self.terminate(desk)?,
+            (Step::Prepare, Role::Intake([])) => self.terminate(desk)?,
             (Step::Prepare, Role::Clock) | (Step::Rest, _) => self.rest(desk)?,
             (Step::Prepare, _) => self.prepare(desk)?,
             (Step::Wake, _) => self.wake(desk)?,
-            (Step::Call, Role::Intake { orders }) => self.file(desk, orders)?,
+            (Step::Call, Role::Intake(orders)) => self.file(desk, orders)?,
             (Step::Call, Role::Signer) => self.receive(desk, ORDERS)?,
             (Step::Call, Role::Inspector) => self.receive(desk, SIGNED)?,
             (Step::Call, _) => self.receive(desk, INSPECTED)?,
-            (Step::Collect, Role::Intake { orders }) => self.hear(desk, orders)?,
+            (Step::Collect, Role::Intake(orders)) => self.hear(desk, orders)?,
             (Step::Collect, _) => self.collect(desk)?,
             (Step::Pass, Role::Signer) => self.certify(desk)?,
             (Step::Pass, Role::Inspector) => self.forward(desk, INSPECTED)?,
@@ -50,12 +64,10 @@ impl Office<'_> {
     }
 
     // Prints a call and its reply.
-    fn report(&self, desk: &Desk, call: impl fmt::Display + Drop, reply: Reply) -> io::Result<()> {
+    fn report(&self, desk: &Desk, call: &str, reply: Reply) -> io::Result<()> {
         let name = desk.name;
-        match reply {
-            Ok(answer) => println!(self.rt; "{name}: {call} -> {answer}"),
-            Err(refusal) => println!(self.rt; "{name}: {call} -> {refusal}"),
-        }
+        let said = Said(reply);
+        println!(self.rt; "{name}: {call} -> {said}")
     }
 
     // An intake with no order left ends.
@@ -70,25 +82,29 @@ impl Office<'_> {
         desk.deadline = deadline;
         desk.step = Step::Call;
         let reply = self.unit.set_deadline(deadline);
-        self.report(desk, format_args!("set_deadline {deadline}"), reply)
+        let name = desk.name;
+        let said = Said(reply);
+        println!(self.rt; "{name}: set_deadline {deadline} -> {said}")
     }
 
     // Files the next order, and waits until it is taken.
     fn file(&mut self, desk: &mut Desk, orders: &'static [&'static str]) -> io::Result<()> {
-        let Some((name, later)) = orders.split_first() else {
+        let Some((order, later)) = orders.split_first() else {
             return Ok(());
         };
-        let subject = Subject::from(*name);
+        let subject = Subject::from(*order);
         let reply = self.unit.send_wait(ORDERS, &subject.0);
         match status_of(reply) {
             Some(Status::Blocked) => desk.step = Step::Collect,
             Some(Status::Ok) => {
-                desk.role = Role::Intake { orders: later };
+                desk.role = Role::Intake(later);
                 desk.step = Step::Prepare;
             }
             _ => desk.step = Step::Rest,
         }
-        self.report(desk, format_args!("send_wait {subject}"), reply)
+        let name = desk.name;
+        let said = Said(reply);
+        println!(self.rt; "{name}: send_wait {subject} -> {said}")
     }
 
     // An intake hears what became of its order: taken, or withdrawn and to be filed again.
@@ -100,9 +116,7 @@ impl Office<'_> {
         if status_of(reply) != Some(Status::Ok) {
             return println!(self.rt; "{name}: the order was withdrawn, and will be filed again");
         }
-        desk.role = Role::Intake {
-            orders: orders.get(1..).unwrap_or(&[]),
-        };
+        desk.role = Role::Intake(orders.get(1..).unwrap_or(&[]));
         let counter = self.unit.ticks();
         let deadline = desk.deadline;
         if counter < deadline {
@@ -126,7 +140,7 @@ impl Office<'_> {
     }
 
     // What a desk does after a receive or its collect.
-    fn received(&self, desk: &mut Desk, call: &'static str, reply: Reply) -> io::Result<()> {
+    fn received(&self, desk: &mut Desk, call: &str, reply: Reply) -> io::Result<()> {
         desk.step = match status_of(reply) {
             Some(Status::Ok) => Step::Pass,
             Some(Status::Blocked) => Step::Collect,

@@ -21,82 +21,85 @@ impl fmt::Display for Played {
     }
 }
 
-fn answer<S: Store, O: Order>(
-    kernel: &mut Kernel<S, O>,
-    call: Call,
-    buffer: &mut [u8],
-) -> Result<Answer, Refusal> {
-    match call {
-        Call::CreateTask(number, deadline, level) => kernel.create_task(number, deadline, level),
-        Call::CreateMailbox(number, capacity, size) => {
-            kernel.create_mailbox(number, capacity, size)
+// A kernel that plays an example.
+#[derive(Drop)]
+struct Player<'a, R: Abort, S: Store, O: Order> {
+    rt: &'a R,
+    played: Played,
+    kernel: Kernel<S, O>,
+}
+
+impl<R: Abort, S: Store, O: Order> Player<'_, R, S, O> {
+    fn answer(&mut self, call: Call, buffer: &mut [u8]) -> Result<Answer, Refusal> {
+        let kernel = &mut self.kernel;
+        match call {
+            Call::CreateTask(number, deadline, level) => {
+                kernel.create_task(number, deadline, level)
+            }
+            Call::CreateMailbox(number, capacity, size) => {
+                kernel.create_mailbox(number, capacity, size)
+            }
+            Call::Terminate => kernel.terminate(),
+            Call::RemoveMailbox(number) => kernel.remove_mailbox(number),
+            Call::SendWait(mailbox, bytes) => kernel.send_wait(mailbox, bytes),
+            Call::SendNoWait(mailbox, bytes) => kernel.send_no_wait(mailbox, bytes),
+            Call::ReceiveWait(mailbox) => kernel.receive_wait(mailbox, buffer),
+            Call::ReceiveNoWait(mailbox) => kernel.receive_no_wait(mailbox, buffer),
+            Call::Wait(ticks) => kernel.wait(ticks),
+            Call::Collect => kernel.collect(buffer),
+            Call::CollectBare => kernel.collect(&mut []),
+            Call::SetDeadline(deadline) => kernel.set_deadline(deadline),
+            Call::SetTicks(ticks) => kernel.set_ticks(ticks),
         }
-        Call::Terminate => kernel.terminate(),
-        Call::RemoveMailbox(number) => kernel.remove_mailbox(number),
-        Call::SendWait(mailbox, bytes) => kernel.send_wait(mailbox, bytes),
-        Call::SendNoWait(mailbox, bytes) => kernel.send_no_wait(mailbox, bytes),
-        Call::ReceiveWait(mailbox) => kernel.receive_wait(mailbox, buffer),
-        Call::ReceiveNoWait(mailbox) => kernel.receive_no_wait(mailbox, buffer),
-        Call::Wait(ticks) => kernel.wait(ticks),
-        Call::Collect => kernel.collect(buffer),
-        Call::CollectBare => kernel.collect(&mut []),
-        Call::SetDeadline(deadline) => kernel.set_deadline(deadline),
-        Call::SetTicks(ticks) => kernel.set_ticks(ticks),
     }
-}
 
-fn repeat<S: Store, O: Order>(
-    rt: &impl Abort,
-    played: Played,
-    kernel: &mut Kernel<S, O>,
-    times: u8,
-    call: Call,
-) {
-    for _ in 0..times {
-        let mut buffer = DOTS;
-        assert_eq!(rt; answer(kernel, call, &mut buffer).err(), None, "{played}");
+    // The call with a buffer of so many bytes answers so, and the buffer then holds these.
+    fn calls<const N: usize>(
+        &mut self,
+        call: Call,
+        before: [u8; N],
+        says: Result<Answer, Refusal>,
+        after: [u8; N],
+    ) {
+        let played = self.played;
+        let mut buffer = before;
+        assert_eq!(self.rt; self.answer(call, &mut buffer), says, "{played}");
+        assert_eq!(self.rt; buffer, after, "{played}");
     }
-}
 
-fn keeps_to<S: Store, O: Order>(
-    rt: &impl Abort,
-    played: Played,
-    kernel: &mut Kernel<S, O>,
-    line: Line,
-) {
-    match line {
-        Line::Call(call, says) => {
+    fn repeat(&mut self, times: u8, call: Call) {
+        let played = self.played;
+        for _ in 0..times {
             let mut buffer = DOTS;
-            assert_eq!(rt;
-                answer(kernel, call, &mut buffer),
-                Ok(says.answer()),
+            assert_eq!(self.rt; self.answer(call, &mut buffer).err(), None, "{played}");
+        }
+    }
+
+    fn keeps_to(&mut self, line: Line) {
+        let played = self.played;
+        let rt = self.rt;
+        match line {
+            Line::Call(call, says) => self.calls(call, DOTS, Ok(Answer::from(says)), says.buffer()),
+            Line::Refused(call, refusal) => self.calls(call, DOTS, Err(refusal), DOTS),
+            Line::Short(call, refusal) => self.calls(call, *b".", Err(refusal), *b"."),
+            Line::Repeat(times, call) => self.repeat(times, call),
+            Line::Tick(readied, running) => {
+                assert_eq!(rt; self.kernel.tick(), (readied, running), "{played}");
+            }
+            Line::Running(task) => assert_eq!(rt; self.kernel.running(), task, "{played}"),
+            Line::Ticks(ticks) => assert_eq!(rt; self.kernel.ticks(), ticks, "{played}"),
+            Line::Deadline(deadline) => assert_eq!(rt;
+                self.kernel.deadline(),
+                deadline,
                 "{played}"
-            );
-            assert_eq!(rt; buffer, says.buffer(), "{played}");
+            ),
         }
-        Line::Refused(call, refusal) => {
-            let mut buffer = DOTS;
-            assert_eq!(rt; answer(kernel, call, &mut buffer), Err(refusal), "{played}");
-            assert_eq!(rt; buffer, DOTS, "{played}");
-        }
-        Line::Short(call, refusal) => {
-            let mut buffer = *b".";
-            assert_eq!(rt; answer(kernel, call, &mut buffer), Err(refusal), "{played}");
-            assert_eq!(rt; buffer, *b".", "{played}");
-        }
-        Line::Repeat(times, call) => repeat(rt, played, kernel, times, call),
-        Line::Tick(readied, running) => {
-            assert_eq!(rt; kernel.tick(), (readied, running), "{played}");
-        }
-        Line::Running(task) => assert_eq!(rt; kernel.running(), task, "{played}"),
-        Line::Ticks(ticks) => assert_eq!(rt; kernel.ticks(), ticks, "{played}"),
-        Line::Deadline(deadline) => assert_eq!(rt; kernel.deadline(), deadline, "{played}"),
     }
 }
 
 // The example's tasks, and a mailbox 3 for two messages of two bytes.
-pub(crate) fn play<S: Store + Drop, O: Order + Drop>(
-    rt: &impl Abort,
+pub(crate) fn play<R: Abort, S: Store + Drop, O: Order + Drop>(
+    rt: &R,
     kind: &'static str,
     store: S,
     order: O,
@@ -115,9 +118,14 @@ pub(crate) fn play<S: Store + Drop, O: Order + Drop>(
         );
     }
     assert_eq!(rt; start.create_mailbox(3, 2, 2).err(), None, "{played}");
-    let mut kernel = start.run();
+    let mut player = Player {
+        rt,
+        played,
+        kernel: start.run(),
+    };
     for line in example.lines {
-        keeps_to(rt, played, &mut kernel, *line);
+        player.keeps_to(*line);
     }
+    let Player { kernel, .. } = player;
     assert_eq!(rt; kernel.close(), counts_of(example.counts), "{played}");
 }

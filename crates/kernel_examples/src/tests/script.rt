@@ -3,7 +3,7 @@ use art::{Answer, Counts, Refusal, Status};
 
 pub(crate) type Bytes = &'static [u8];
 
-// A call that can be refused.
+// A call that can be refused. An example is data, played over four kinds of kernel: so these are cases and no closures.
 #[derive(Clone, Copy)]
 pub(crate) enum Call {
     CreateTask(u8, u32, u8),
@@ -73,8 +73,18 @@ pub(crate) const BLOCKED: Says = Says::Plainly(Status::Blocked);
 pub(crate) const DEADLINE_REACHED: Says = Says::Plainly(Status::DeadlineReached);
 
 impl Says {
-    pub(crate) fn answer(self) -> Answer {
-        let (status, message, length, displaced) = match self {
+    // What the buffer holds after the call.
+    pub(crate) fn buffer(self) -> [u8; 4] {
+        match self {
+            Says::Brings(_, _, bytes) => bytes,
+            _ => DOTS,
+        }
+    }
+}
+
+impl From<Says> for Answer {
+    fn from(says: Says) -> Answer {
+        let (status, message, length, displaced) = match says {
             Says::Plainly(status) => (status, None, None, None),
             Says::Naming(status, n) => (status, Some(n), None, None),
             Says::Displacing(n, d) => (Status::Ok, Some(n), None, Some(d)),
@@ -87,16 +97,9 @@ impl Says {
             displaced,
         }
     }
-
-    // What the buffer holds after the call.
-    pub(crate) fn buffer(self) -> [u8; 4] {
-        match self {
-            Says::Brings(_, _, bytes) => bytes,
-            _ => DOTS,
-        }
-    }
 }
 
+// No From: neither the counts nor arrays are this crate's own.
 pub(crate) fn counts_of([accepted, queued, handed_over, withdrawn, displaced]: [u64; 5]) -> Counts {
     Counts {
         accepted,
