@@ -1,8 +1,7 @@
 -- One more turn.
-use Rattle.std.proofs.Common.{◌≡◌, ℕ, ◌+◌, Result, is_ok, cond, arith, List, [], ◌∷◌, ◌++◌, length-append}
+use Rattle.std.proofs.Common.{ℕ, ◌+◌, Result, is_ok, cond, arith, [], ◌∷◌, ◌++◌}
 use Rattle.std.proofs.lemmas.Fn.{FoldsTo-push}
 use Rattle.std.proofs.lemmas.Grind.{common_steps}
-use Rattle.std.specs.List.{FoldsTo, count_by}
 use Rattle.turns.specs.Turns.{TakesTurns}
 
 -- a further turn, and its answer

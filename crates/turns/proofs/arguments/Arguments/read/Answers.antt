@@ -1,5 +1,4 @@
-use Rattle.std.proofs.Common.{◌≡◌, ◌∷◌, ◌≤◌, Some, None, length, drop, inl, inr, ap, ◌∙◌}
-use Rattle.std.specs.Vec.Iter.{into_iter_items}
+use Rattle.std.proofs.Common.{drop, inl, inr, ap, ◌∙◌}
 use Rattle.turns.proofs.Skipping.{at_equal, if_err, no_second, says, second_is}
 use Rattle.turns.specs.Line.{ReadsNone}
 use Rattle.turns.proofs.arguments.Arguments.read.Goals as goal
