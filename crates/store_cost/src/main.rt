@@ -32,10 +32,8 @@ impl FromStr for Turn {
     }
 }
 
-// How many turns were accepted whole, beside messages that are held all the while. Never inlined, so that for the
-// compiler the caller sees what the last turn leaves in the store, and no turn is idle.
-#[inline(never)]
-fn measure<S: Store>(store: &mut S, turn: Turn, held: u32, turns: u32) -> u32 {
+// How many turns were accepted whole, beside messages that are held all the while.
+fn measure<S: Store + Drop>(mut store: S, turn: Turn, held: u32, turns: u32) -> u32 {
     let bytes = [7; MAX_LENGTH];
     let mut buffer = [0; MAX_LENGTH];
     for message in 0..held {
@@ -71,8 +69,8 @@ fn run(rt: &HostRuntime) -> anyhow::Result<()> {
         turns,
     } = Arguments::<Turn, u32>::read(env::args(rt)?, "no number of messages")?;
     let accepted = match kind.as_str() {
-        "slot" => measure(&mut SlotStore::new(), turn, beside, turns),
-        "packed" => measure(&mut PackedStore::new(), turn, beside, turns),
+        "slot" => measure(SlotStore::new(), turn, beside, turns),
+        "packed" => measure(PackedStore::new(), turn, beside, turns),
         _ => return Err(anyhow!("no such store")),
     };
     println!(rt; "accepted {accepted}")?;

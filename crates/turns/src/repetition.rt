@@ -1,5 +1,5 @@
 // Turns taken over and over.
-ghost use Rattle.std.specs.Prelude.{◌≡◌, Result, is_ok};
+ghost use Rattle.std.specs.Prelude.{◌≡◌, ◌+◌, ◌<◌, Result, cond, is_ok};
 ghost use Rattle.turns.specs.Turns.{TakesTurns};
 
 // Takes as many turns, and answers how many of them were accepted.
@@ -9,19 +9,19 @@ pub fn repeat<T: Drop, E: Drop, F: FnMut() -> Result<T, E>>(turns: u32, mut take
 {
     let mut accepted = 0;
     for _turn in 0..turns {
-        if is_accepted(&mut take) {
-            accepted += 1;
-        }
+        take_one(&mut take, &mut accepted);
     }
     accepted
 }
 
-// One turn. Never inlined, so that the compiler cannot make one of many turns.
+// One turn, counted where it is accepted. Never inlined, and the count goes from turn to turn in memory, so that the
+// compiler can neither make one of many turns nor let one stand for all.
 #[inline(never)]
-fn is_accepted<T: Drop, E: Drop, F: FnMut() -> Result<T, E>>(take: &mut F) -> bool
-    requires { F.IsAlwaysCallable take.old }
-    ensures taken { (answer : Result T E) × F.step take.old answer take.new × (result ≡ is_ok answer) }
+fn take_one<T: Drop, E: Drop, F: FnMut() -> Result<T, E>>(take: &mut F, accepted: &mut u32)
+    requires callable { F.IsAlwaysCallable take.old }
+    requires room { accepted.old < 4294967295 }
+    ensures taken { (answer : Result T E) × F.step take.old answer take.new × (accepted.new ≡ accepted.old + cond (is_ok answer) 1 0) }
     ensures goes_on { F.IsAlwaysCallable take.new }
 {
-    take().is_ok()
+    *accepted += u32::from(take().is_ok());
 }
