@@ -1,12 +1,12 @@
 -- The state, as the rules see it, that an engine holds.
-use Rattle.std.specs.Prelude.{◌≡◌, ℕ, ◌+◌, ◌-◌, min, List, [], length, Some, Option}
+use Rattle.std.specs.Prelude.{◌≡◌, ℕ, ◌+◌, ◌-◌, min, List, [], ◌∷◌, length, Some, None, Option}
 use Rattle.store.specs.declared.Store.{Ghosts as Stores}
 use Rattle.art.specs.declared.order.Order.{Ghosts as Orders}
 use Rattle.art.specs.declared.task.Due.TheVariants.{Given}
 use Rattle.art.specs.declared.task.Message.{Message}
 use Rattle.art.specs.State.{Kind, State, running, top, with_counter}
 use Rattle.art.specs.Verbs.{accept, mailbox_at, oldest}
-use Rattle.art.specs.Rules.{Effect, Reply, Ticked, arrive, collect_rows, collected, displace, number_in, numbers_from, receive, store_rows, take_rows, unless, visited}
+use Rattle.art.specs.Rules.{Effect, Reply, Ticked, arrive, collect_rows, collected, displace, number_in, numbers_from, numbers_spent, receive, store_rows, take_rows, unless, visited}
 use Rattle.art.specs.Record.{Line, effect}
 use Rattle.mailboxes.specs.Meaning.{mailboxes_in}
 use Rattle.roster.specs.View.{ready_in, tasks_in}
@@ -16,11 +16,16 @@ use Rattle.engine.specs.declared.tables.Engine.{Engine}
 abbrev pub kind_of : {S O : Type 0} → Stores S → Orders O → Kind
 kind_of store order = record { capacity = store.capacity; cost = store.cost; before = order.before }
 
+-- the number of the next message; once the last has been used, the one above it
+abbrev pub number_next : Option ℕ → ℕ
+number_next (Some n) = n
+number_next None = top + 1
+
 abbrev pub view : {S O : Type 0} → Stores S → Engine S O → State
 view store k =
     record {
       counter = k.tables.counter;
-      next = k.tables.next;
+      next = number_next k.tables.next;
       tasks = tasks_in k.tables.roster;
       mailboxes = mailboxes_in k.tables.mailboxes;
       ready = ready_in k.tables.roster;
@@ -40,6 +45,10 @@ abbrev pub posted : Kind → State → ℕ → List ℕ → Option ℕ → Optio
 posted kind s m bytes sender x =
     unless s [] (store_rows kind s bytes x)
     (arrive kind (accept kind (displace kind s m x) bytes) m s.next sender (number_in x) (oldest (mailbox_at s m).receivers))
+
+-- the same where the next message has a number
+abbrev pub numbered : Kind → State → ℕ → List ℕ → Option ℕ → Option Message → Effect
+numbered kind s m bytes sender x = unless s [] (numbers_spent s ∷ []) (posted kind s m bytes sender x)
 
 -- a receive that finds a message
 abbrev pub taken : Kind → State → ℕ → List ℕ → Message → Effect

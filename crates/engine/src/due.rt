@@ -34,13 +34,12 @@ pub(crate) fn due_after(task: Task, event: Event) -> Option<Due>
 fn waking(deadline: u32, until: u32, counter: u32) -> Option<Due>
     ensures { result ≡ wakes deadline until counter }
 {
-    if deadline <= counter {
-        return Some(Due::Plain {
-            status: Status::DeadlineReached,
-        });
-    }
-    if until <= counter {
-        return Some(Due::Plain { status: Status::Ok });
-    }
-    None
+    let status = if deadline <= counter {
+        Status::DeadlineReached
+    } else if until <= counter {
+        Status::Ok
+    } else {
+        return None;
+    };
+    Some(Due::Plain { status })
 }

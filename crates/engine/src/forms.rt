@@ -21,10 +21,8 @@ pub fn about(status: Status, message: u32) -> Answer
     ensures { result ≡ naming status message }
 {
     Answer {
-        status,
         message: Some(message),
-        length: None,
-        displaced: None,
+        ..plainly(status)
     }
 }
 
@@ -33,10 +31,8 @@ pub fn sent(status: Status, message: u32, displaced: Option<u32>) -> Answer
     ensures { result ≡ record { status = status; message = Some message; length = None; displaced = displaced } }
 {
     Answer {
-        status,
-        message: Some(message),
-        length: None,
         displaced,
+        ..about(status, message)
     }
 }
 
@@ -45,9 +41,7 @@ pub fn brought(message: u32, length: usize) -> Answer
     ensures { result ≡ bringing message length }
 {
     Answer {
-        status: Status::Ok,
-        message: Some(message),
         length: Some(length),
-        displaced: None,
+        ..about(Status::Ok, message)
     }
 }

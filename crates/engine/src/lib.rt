@@ -2,6 +2,7 @@
 // Its functions may ask something of their callers; the kernel's calls, above it, ask nothing.
 #![tactic(auto)]
 
+mod callers;
 mod due;
 mod forms;
 mod leaving;

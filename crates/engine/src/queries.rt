@@ -22,10 +22,10 @@ impl<S: Store, O: Order> Engine<S, O> {
     pub fn due(&self) -> Option<Due>
         ensures { result ≡ due_of ((view S.Store self.now).tasks (running (view S.Store self.now))) }
     {
-        match self.tables.roster.task(self.running()) {
-            Some(task) => task.due,
-            None => None,
-        }
+        self.tables
+            .roster
+            .task(self.running())
+            .and_then(|task| task.due)
     }
 
     pub fn is_answer_due(&self) -> bool
@@ -53,8 +53,8 @@ impl<S: Store, O: Order> Engine<S, O> {
             return Err(StoreFault::Held { message });
         }
         let wanted = S::cost(bytes.len() as u8);
-        if used as u64 + wanted as u64 > S::capacity() as u64 {
-            let free = S::capacity().saturating_sub(used);
+        let free = S::capacity().saturating_sub(used);
+        if wanted > free {
             return Err(StoreFault::StoreFull {
                 message,
                 units: Units { wanted, free },
@@ -70,6 +70,6 @@ impl<S: Store, O: Order> Engine<S, O> {
     {
         let freed = self.units_of(displaced.number)?;
         let used = self.store.used().saturating_sub(freed);
-        self.would_put(self.tables.next as u32, bytes, used)
+        self.would_put(self.tables.next.unwrap(), bytes, used)
     }
 }

@@ -20,13 +20,11 @@ impl<S: Store, O: Order> Engine<S, O> {
         if u == 0 {
             return true;
         }
-        let Some(first) = self.tables.roster.task(t) else {
-            return false;
-        };
-        let Some(second) = self.tables.roster.task(u) else {
-            return false;
-        };
-        self.order.goes_before(first.urgency, second.urgency)
+        let roster = &self.tables.roster;
+        match (roster.task(t), roster.task(u)) {
+            (Some(first), Some(second)) => { self.order.goes_before(first.urgency, second.urgency) }
+            _ => false,
+        }
     }
 
     // Where task t enters the ready list.
@@ -66,9 +64,9 @@ impl<S: Store, O: Order> Engine<S, O> {
             return;
         };
         let woken = Task {
-            urgency: task.urgency,
             activity: Activity::Ready,
             due: Some(due),
+            ..task
         };
         self.admit(t, woken);
     }

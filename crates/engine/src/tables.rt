@@ -7,8 +7,8 @@ use store::Store;
 #[derive(Drop)]
 pub struct Tables {
     pub counter: u32,
-    // The number of the next message; above the largest 32-bit number once that has been used.
-    pub next: u64,
+    // The number of the next message; none once the last has been used.
+    pub next: Option<u32>,
     pub roster: Roster,
     pub mailboxes: Mailboxes,
     pub counts: Counts,

@@ -1,5 +1,5 @@
 -- A put that is known to fit once a message has gone, and a change of a mailbox that its receivers do not notice.
-use Rattle.std.proofs.Common.{◌≡◌, ℕ, ◌+◌, ◌-◌, Bool, true, false, cond, not, ◌||◌, eqb, ltb, List, [], ◌∷◌, ◌++◌, length, is_some, Some, None, Ok, Err, Option, Result, sym, refl, ap, ◌∙◌, subst, arith}
+use Rattle.std.proofs.Common.{◌≡◌, ℕ, ◌+◌, ◌-◌, Bool, true, false, cond, not, ◌||◌, eqb, ltb, nat_lt, List, [], ◌∷◌, ◌++◌, length, is_some, Some, None, Ok, Err, Option, Result, sym, refl, ap, ◌∙◌, subst, arith}
 use Rattle.std.proofs.lemmas.Bool.{eq-eqb}
 use Rattle.store.specs.declared.fault.StoreFault.{StoreFault}
 use Rattle.store.specs.declared.fault.Layer.TheVariants.{Store}
@@ -7,12 +7,12 @@ use Rattle.store.specs.Meaning.{Contents, with, without, units_in, full_row, put
 use Rattle.store.specs.Refusal.{row, tried, outcome}
 use Rattle.answers.specs.declared.answer.Counts.{Counts}
 use Rattle.art.specs.declared.task.Message.{Message}
-use Rattle.answers.specs.Counts.{count_accepted, count_displaced}
-use Rattle.art.specs.State.{Kind, Mailbox, State, changed}
-use Rattle.art.specs.Verbs.{accept, edit_mailbox, edited, mailbox_at, mailbox_in, oldest, unqueue_oldest}
-use Rattle.art.specs.Rules.{Effect, Reply, arrive, displace, store_rows}
+use Rattle.answers.specs.Counts.{count_displaced}
+use Rattle.art.specs.State.{Kind, Mailbox, State, changed, top, with_store}
+use Rattle.art.specs.Verbs.{edited, mailbox_at, mailbox_in, oldest, unqueue_oldest, use_number}
+use Rattle.art.specs.Rules.{Effect, Reply, arrive, displace, numbers_spent, store_rows}
 use Rattle.art.proofs.Tried.{accepted_by, passes}
-use Rattle.engine.specs.Model.{Gives, posted}
+use Rattle.engine.specs.Model.{Gives, numbered}
 
 pub outcome_ok : (r : Result (Unit {0}) StoreFault) (y : Unit {0}) → outcome r ≡ Ok y → r ≡ Ok y
 outcome_ok (Ok z) y e = refl
@@ -37,29 +37,34 @@ fits capacity cost h used n x bytes y e =
     rw (q.0, still_none h x n r.0, t.0)
 
 -- the receivers of a mailbox do not change with its queue
-pub same_receivers : (boxes : ℕ → Option Mailbox) (m : ℕ) → (mailbox_in (changed boxes m (edited unqueue_oldest (boxes m)) m)).receivers ≡ (mailbox_in (boxes m)).receivers
+same_receivers : (boxes : ℕ → Option Mailbox) (m : ℕ) → (mailbox_in (changed boxes m (edited unqueue_oldest (boxes m)) m)).receivers ≡ (mailbox_in (boxes m)).receivers
 same_receivers boxes m = rw (eq-eqb m m refl) (by (boxes m))
   where
     by : (b : Option Mailbox) → (mailbox_in (edited unqueue_oldest b)).receivers ≡ (mailbox_in b).receivers
     by None = refl
     by (Some b) = refl
 
-module _ (kind : Kind) (s : State) (m : ℕ) (bytes : List ℕ) (x : Message) where
-  -- the state once the message has gone and the bytes are held, part by part
-  pub displaced_state : (boxes : ℕ → Option Mailbox) (h : Contents) (u : ℕ) (c : Counts) → boxes ≡ changed s.mailboxes m (edited unqueue_oldest (s.mailboxes m)) → h ≡ with (without s.held x.number) s.next bytes → u ≡ s.used - units_in kind.cost (s.held x.number) + kind.cost (length bytes) → c ≡ count_accepted (count_displaced s.counts) → ◌≡◌ {A = State} (record { counter = s.counter; next = s.next + 1; tasks = s.tasks; mailboxes = boxes; ready = s.ready; held = h; used = u; counts = c }) (accept kind (displace kind s m (Some x)) bytes)
-  displaced_state boxes h u c p q r t =
-      ap (λ z. record { counter = s.counter; next = s.next + 1; tasks = s.tasks; mailboxes = z; ready = s.ready; held = h; used = u; counts = c }) p
-      ∙ ap (λ z. record { counter = s.counter; next = s.next + 1; tasks = s.tasks; mailboxes = (edit_mailbox s m unqueue_oldest).mailboxes; ready = s.ready; held = z; used = u; counts = c }) q
-      ∙ ap (λ z. record { counter = s.counter; next = s.next + 1; tasks = s.tasks; mailboxes = (edit_mailbox s m unqueue_oldest).mailboxes; ready = s.ready; held = with (without s.held x.number) s.next bytes; used = z; counts = c }) r
-      ∙ ap (λ z. record { counter = s.counter; next = s.next + 1; tasks = s.tasks; mailboxes = (edit_mailbox s m unqueue_oldest).mailboxes; ready = s.ready; held = with (without s.held x.number) s.next bytes; used = s.used - units_in kind.cost (s.held x.number) + kind.cost (length bytes); counts = z }) t
+-- a number that is left is the next
+pub is_next : (s : State) (n : ℕ) → tried (numbers_spent s ∷ []) s.next ≡ Ok n → (n ≡ s.next) × (nat_lt top s.next ≡ false)
+is_next s n e =
+    let p = passes s.next (numbers_spent s) [] n e in
+    (cc, p.0)
 
-  -- a displacing send that the store takes
-  pub displacing_gives : (mid last : State) (n : ℕ) (r : Reply) (y : Unit {0}) → n ≡ s.next → tried (store_rows kind s bytes (Some x)) y ≡ Ok y → mid ≡ accept kind (displace kind s m (Some x)) bytes → Gives (arrive kind mid m n None (Some x.number) (oldest (mailbox_at mid m).receivers)) r [] last → Gives (posted kind s m bytes None (Some x)) r [] last
-  displacing_gives mid last n r y e ok is g =
-      let after = accept kind (displace kind s m (Some x)) bytes in
-      let rest = arrive kind after m s.next None (Some x.number) (oldest (mailbox_at s m).receivers) in
-      let a : arrive kind mid m n None (Some x.number) (oldest (mailbox_at mid m).receivers) ≡ rest =
-      ap (λ z. arrive kind z m n None (Some x.number) (oldest (mailbox_at z m).receivers)) is
-      ∙ ap (λ z. arrive kind after m z None (Some x.number) (oldest (mailbox_at after m).receivers)) e
-      ∙ ap (λ z. arrive kind after m s.next None (Some x.number) (oldest z)) (same_receivers s.mailboxes m) in
-      subst (λ (z : Effect). Gives z r [] last) (a ∙ sym (accepted_by y s [] (store_rows kind s bytes (Some x)) rest y ok)) g
+module _ (kind : Kind) (s : State) (m : ℕ) (bytes : List ℕ) (x : Message) where
+  -- the state once the message has gone and the bytes are held
+  abbrev pub made_room : State
+  made_room = with_store (displace kind s m (Some x)) (with (without s.held x.number) s.next bytes) (s.used - units_in kind.cost (s.held x.number) + kind.cost (length bytes))
+
+  -- the same, part by part
+  pub displaced_state : (boxes : ℕ → Option Mailbox) (h : Contents) (u : ℕ) (c : Counts) → boxes ≡ changed s.mailboxes m (edited unqueue_oldest (s.mailboxes m)) → h ≡ with (without s.held x.number) s.next bytes → u ≡ s.used - units_in kind.cost (s.held x.number) + kind.cost (length bytes) → c ≡ count_displaced s.counts → ◌≡◌ {A = State} (record { counter = s.counter; next = s.next; tasks = s.tasks; mailboxes = boxes; ready = s.ready; held = h; used = u; counts = c }) made_room
+  displaced_state boxes h u c p q r t = cc
+
+  -- a displacing send that has a number, and that the store takes
+  pub displacing_gives : (mid last : State) (r : Reply) (n : ℕ) (y : Unit {0}) → (n ≡ s.next) × (nat_lt top s.next ≡ false) → tried (store_rows kind s bytes (Some x)) y ≡ Ok y → mid ≡ made_room → Gives (arrive kind (use_number mid) m n None (Some x.number) (oldest (mailbox_at mid m).receivers)) r [] last → Gives (numbered kind s m bytes None (Some x)) r [] last
+  displacing_gives mid last r n y next ok is g =
+      let rest = arrive kind (use_number made_room) m s.next None (Some x.number) (oldest (mailbox_at s m).receivers) in
+      let a : arrive kind (use_number mid) m n None (Some x.number) (oldest (mailbox_at mid m).receivers) ≡ rest =
+      ap (λ z. arrive kind (use_number z) m n None (Some x.number) (oldest (mailbox_at z m).receivers)) is
+      ∙ ap (λ k. arrive kind (use_number made_room) m k None (Some x.number) (oldest (mailbox_at made_room m).receivers)) next.0
+      ∙ ap (λ z. arrive kind (use_number made_room) m s.next None (Some x.number) (oldest z)) (same_receivers s.mailboxes m) in
+      rw next.1 (subst (λ (z : Effect). Gives z r [] last) (a ∙ sym (accepted_by y s [] (store_rows kind s bytes (Some x)) rest y ok)) g)

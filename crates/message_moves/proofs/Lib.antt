@@ -1,1 +1,2 @@
 mod Displacing
+mod Room

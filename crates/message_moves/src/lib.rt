@@ -4,17 +4,18 @@
 
 ghost use Rattle.std.specs.Prelude.{◌≡◌, ◌<◌, ◌≤◌, true, [], is_some, Some, None, Ok};
 ghost use Rattle.refusals.specs.Refusals.{outcome};
-ghost use Rattle.art.specs.State.{running, top};
-ghost use Rattle.art.specs.Verbs.{mailbox_at, oldest, wake_sender};
+ghost use Rattle.art.specs.State.{running};
+ghost use Rattle.art.specs.Verbs.{mailbox_at, oldest, use_number, wake_sender};
 ghost use Rattle.art.specs.Rules.{Answered, arrive};
 ghost use Rattle.mailboxes.specs.Meaning.{room_for_message};
-ghost use Rattle.engine.specs.Model.{Gives, fetched, kind_of, posted, taken, view};
+ghost use Rattle.engine.specs.Model.{Gives, fetched, kind_of, numbered, taken, view};
 
 use art::{Activity, Answer, Event, MailboxNumber, Message, Order, Refusal, Status, TaskNumber};
 use engine::{Engine, brought, release, sent};
 use store::{Store, StoreFault};
 
-// An accepted message goes to the oldest receiver, or to the end of the queue, where its sender may wait.
+// An accepted message uses up the next number, and goes to the oldest receiver, or to the end of the queue, where
+// its sender may wait.
 fn arrive<S: Store, O: Order>(
     engine: &mut Engine<S, O>,
     mailbox: MailboxNumber,
@@ -22,11 +23,13 @@ fn arrive<S: Store, O: Order>(
     sender: Option<TaskNumber>,
     displaced: Option<u32>,
 ) -> Answer
-    requires number { mailbox < 32 }
+    requires next { message ≡ (view S.Store engine.old).next }
     requires room { room_for_message ((view S.Store engine.old).mailboxes mailbox) }
     requires run { is_some sender ≡ true → 0 < running (view S.Store engine.old) }
-    ensures { Gives (arrive (kind_of S.Store O.Order) (view S.Store engine.old) mailbox message sender displaced (oldest (mailbox_at (view S.Store engine.old) mailbox).receivers)) (Answered (Ok result)) [] (view S.Store engine.new) }
+    ensures { Gives (arrive (kind_of S.Store O.Order) (use_number (view S.Store engine.old)) mailbox message sender displaced (oldest (mailbox_at (view S.Store engine.old) mailbox).receivers)) (Answered (Ok result)) [] (view S.Store engine.new) }
 {
+    engine.tables.next = message.checked_add(1);
+    engine.tables.counts.accept();
     if let Some(receiver) = engine.tables.mailboxes.oldest_receiver(mailbox) {
         engine.tables.mailboxes.leave_oldest(mailbox);
         engine.tables.counts.hand_over();
@@ -54,16 +57,12 @@ pub fn post<S: Store, O: Order>(
     bytes: &[u8],
     sender: Option<TaskNumber>,
 ) -> Result<Answer, Refusal>
-    requires number { mailbox < 32 }
     requires room { room_for_message ((view S.Store engine.old).mailboxes mailbox) }
     requires run { is_some sender ≡ true → 0 < running (view S.Store engine.old) }
-    requires fresh { (view S.Store engine.old).next ≤ top }
-    ensures { Gives (posted (kind_of S.Store O.Order) (view S.Store engine.old) mailbox bytes.now sender None) (Answered (outcome result)) [] (view S.Store engine.new) }
+    ensures { Gives (numbered (kind_of S.Store O.Order) (view S.Store engine.old) mailbox bytes.now sender None) (Answered (outcome result)) [] (view S.Store engine.new) }
 {
-    let message = engine.tables.next as u32;
+    let message = engine.next_number()?;
     engine.store.put(message, bytes)?;
-    engine.tables.next += 1;
-    engine.tables.counts.accept();
     Ok(arrive(engine, mailbox, message, sender, None))
 }
 
@@ -75,19 +74,15 @@ pub fn post_displacing<S: Store, O: Order>(
     bytes: &[u8],
     oldest: Message,
 ) -> Result<Answer, Refusal>
-    requires number { mailbox < 32 }
-    requires stands { is_some ((view S.Store engine.old).mailboxes mailbox) ≡ true }
-    requires fresh { (view S.Store engine.old).next ≤ top }
-    ensures { Gives (posted (kind_of S.Store O.Order) (view S.Store engine.old) mailbox bytes.now None (Some oldest)) (Answered (outcome result)) [] (view S.Store engine.new) }
+    requires { is_some ((view S.Store engine.old).mailboxes mailbox) ≡ true }
+    ensures { Gives (numbered (kind_of S.Store O.Order) (view S.Store engine.old) mailbox bytes.now None (Some oldest)) (Answered (outcome result)) [] (view S.Store engine.new) }
 {
-    let message = engine.tables.next as u32;
+    let message = engine.next_number()?;
     engine.could_displace(oldest, bytes)?;
     engine.tables.mailboxes.unqueue_oldest(mailbox);
     engine.tables.counts.displace();
     release(&mut engine.store, oldest.number);
     let _ = engine.store.put(message, bytes);
-    engine.tables.next += 1;
-    engine.tables.counts.accept();
     Ok(arrive(engine, mailbox, message, None, Some(oldest.number)))
 }
 
