@@ -37,7 +37,7 @@ impl<S: Store, O: Order> Engine<S, O> {
 
     // The mailbox of a number.
     pub fn mailbox(&self, mailbox: MailboxNumber) -> Result<&Mailbox, Refusal>
-        ensures value { MatchResult result (λ row. (view S.Store self.now).mailboxes mailbox ≡ Some (meaning row.now)) (λ refusal. tried (bad_mailbox mailbox ∷ no_mailbox (view S.Store self.now) mailbox ∷ []) mailbox ≡ Err (told refusal)) }
+        ensures value { MatchResult result (λ row. (view S.Store self.now).mailboxes mailbox ≡ Some (meaning row.now)) (λ refusal. Err (told refusal) ≡ tried (bad_mailbox mailbox ∷ no_mailbox (view S.Store self.now) mailbox ∷ []) mailbox) }
         ensures below { is_ok result ≡ true → mailbox < 32 }
     {
         if mailbox > LAST_MAILBOX {

@@ -1,6 +1,6 @@
 // Who runs, who is ready, and how a task comes to be ready or ceases to be.
 ghost use Rattle.std.specs.Prelude.{◌≡◌, ◌<◌, ◌≤◌, true, false, ◌||◌, length, Some, ◌==◌};
-ghost use Rattle.std.specs.List.{insert};
+ghost use Rattle.std.specs.List.{insert, position};
 ghost use Rattle.art.specs.State.{running, with_task};
 ghost use Rattle.art.specs.Verbs.{block, due_of, enter, entered, urgent, wake, with_deadline, removed, settle};
 ghost use Rattle.art.specs.Rules.{after_set_deadline};
@@ -27,18 +27,24 @@ impl<S: Store, O: Order> Engine<S, O> {
         }
     }
 
+    // Where the first stands that task t passes, if there is one.
+    fn first_passed(&self, t: TaskNumber) -> Option<usize>
+        ensures { result ≡ position (λ u. u == 0 || urgent (kind_of S.Store O.Order) ((view S.Store self.now).tasks t) ((view S.Store self.now).tasks u)) (view S.Store self.now).ready }
+    {
+        self.tables
+            .roster
+            .ready()
+            .iter()
+            .position(|u| self.passes(t, *u))
+    }
+
     // Where task t enters the ready list.
     fn place(&self, t: TaskNumber) -> usize
         ensures within { result ≤ length (view S.Store self.now).ready }
         ensures enters { insert (view S.Store self.now).ready result t ≡ entered (kind_of S.Store O.Order) (view S.Store self.now).tasks t (view S.Store self.now).ready }
     {
-        let count = self.tables.roster.ready_len();
-        for i in 0..count {
-            if self.passes(t, self.tables.roster.ready_at(i)) {
-                return i;
-            }
-        }
-        count
+        self.first_passed(t)
+            .unwrap_or(self.tables.roster.ready_len())
     }
 
     // A task that is not ready becomes the ready task x, and enters the ready list.

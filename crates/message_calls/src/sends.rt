@@ -1,24 +1,37 @@
 // The two sends.
-ghost use Rattle.std.specs.Prelude.{◌≡◌, [], nat_lt};
-ghost use Rattle.refusals.specs.Refusals.{outcome};
+ghost use Rattle.std.specs.Prelude.{◌≡◌, [], ◌∷◌, cond, is_ok, Some, None, Ok, Err, MatchResult};
+ghost use Rattle.store.specs.Refusal.{tried};
+ghost use Rattle.refusals.specs.Refusals.{outcome, told};
 ghost use Rattle.art.specs.Record.{SendNoWait, SendWait};
-ghost use Rattle.art.specs.Rules.{Answered};
-ghost use Rattle.art.specs.State.{top};
+ghost use Rattle.art.specs.Rules.{Answered, bad_mailbox, mixed, no_mailbox, wrong_size};
+ghost use Rattle.art.specs.Verbs.{fills, oldest};
+ghost use Rattle.mailboxes.specs.Meaning.{meaning, room_for_message};
 ghost use Rattle.engine.specs.Model.{Does, view};
 
-use art::{Answer, LAST_MAILBOX, MailboxNumber, Order, Refusal};
+use art::{Answer, MailboxNumber, Message, Order, Refusal};
 use engine::Engine;
+use mailboxes::Mailbox;
 use message_moves::{post, post_displacing};
 use store::Store;
 
-// The largest message number.
-const TOP: u64 = 4294967295;
-
-// Whether the last number has been used.
-fn numbers_spent<S: Store, O: Order>(engine: &Engine<S, O>) -> bool
-    ensures { result ≡ nat_lt top (view S.Store engine.now).next }
+// The mailbox of a number, where messages of this length come in this mode.
+fn open_to<'a, S: Store, O: Order>(
+    engine: &'a Engine<S, O>,
+    mailbox: MailboxNumber,
+    bytes: &[u8],
+    waiting: bool,
+) -> Result<&'a Mailbox, Refusal>
+    ensures value { MatchResult result (λ row. (view S.Store engine.now).mailboxes mailbox ≡ Some (meaning row.now)) (λ refusal. tried (bad_mailbox mailbox ∷ no_mailbox (view S.Store engine.now) mailbox ∷ wrong_size (view S.Store engine.now) mailbox bytes.now ∷ mixed (view S.Store engine.now) mailbox waiting ∷ []) mailbox ≡ Err (told refusal)) }
+    ensures open { is_ok result ≡ true → tried (bad_mailbox mailbox ∷ no_mailbox (view S.Store engine.now) mailbox ∷ wrong_size (view S.Store engine.now) mailbox bytes.now ∷ mixed (view S.Store engine.now) mailbox waiting ∷ []) mailbox ≡ Ok mailbox }
 {
-    engine.tables.next > TOP
+    let row = engine.mailbox(mailbox)?;
+    if bytes.len() != row.size() as usize {
+        return Err(Refusal::WrongSize { mailbox });
+    }
+    if row.is_other_mode(waiting) {
+        return Err(Refusal::Mixed { mailbox });
+    }
+    Ok(row)
 }
 
 // Sends a message, and waits with it where no receiver waits for it.
@@ -29,32 +42,23 @@ pub fn send_wait<S: Store, O: Order>(
 ) -> Result<Answer, Refusal>
     ensures { Does S.Store O.Order (SendWait mailbox bytes.now) engine.old (Answered (outcome result)) [] engine.new }
 {
-    let task = engine.running();
-    if engine.is_answer_due() {
-        return Err(Refusal::AnswerDue { task });
-    }
-    if task == 0 {
-        return Err(Refusal::IdleTask { task });
-    }
-    if mailbox > LAST_MAILBOX {
-        return Err(Refusal::BadNumber { given: mailbox });
-    }
-    let Some(row) = engine.tables.mailboxes.find(mailbox) else {
-        return Err(Refusal::NoMailbox { mailbox });
-    };
-    if bytes.len() != row.size() as usize {
-        return Err(Refusal::WrongSize { mailbox });
-    }
-    if row.is_other_mode(true) {
-        return Err(Refusal::Mixed { mailbox });
-    }
-    if row.messages_fill() {
+    let task = engine.busy_caller()?;
+    if open_to(engine, mailbox, bytes, true)?.messages_fill() {
         return Err(Refusal::Full { mailbox });
     }
-    if numbers_spent(engine) {
-        return Err(Refusal::NumbersSpent { task });
-    }
     post(engine, mailbox, bytes, Some(task))
+}
+
+// The message that a send displaces: the oldest where messages fill the mailbox.
+fn displaced_at(mailbox: &Mailbox) -> Option<Message>
+    ensures value { result ≡ cond (fills (meaning mailbox.now) (meaning mailbox.now).messages) (oldest (meaning mailbox.now).messages) None }
+    ensures room { result ≡ None → room_for_message (Some (meaning mailbox.now)) }
+{
+    if mailbox.messages_fill() {
+        mailbox.oldest()
+    } else {
+        None
+    }
 }
 
 // Sends a message and goes on; at a full mailbox the oldest message makes room.
@@ -65,32 +69,9 @@ pub fn send_no_wait<S: Store, O: Order>(
 ) -> Result<Answer, Refusal>
     ensures { Does S.Store O.Order (SendNoWait mailbox bytes.now) engine.old (Answered (outcome result)) [] engine.new }
 {
-    let task = engine.running();
-    if engine.is_answer_due() {
-        return Err(Refusal::AnswerDue { task });
-    }
-    if mailbox > LAST_MAILBOX {
-        return Err(Refusal::BadNumber { given: mailbox });
-    }
-    let Some(row) = engine.tables.mailboxes.find(mailbox) else {
-        return Err(Refusal::NoMailbox { mailbox });
-    };
-    if bytes.len() != row.size() as usize {
-        return Err(Refusal::WrongSize { mailbox });
-    }
-    if row.is_other_mode(false) {
-        return Err(Refusal::Mixed { mailbox });
-    }
-    let full = row.messages_fill();
-    let oldest = row.oldest();
-    if numbers_spent(engine) {
-        return Err(Refusal::NumbersSpent { task });
-    }
-    if !full {
-        return post(engine, mailbox, bytes, None);
-    }
-    match oldest {
-        Some(message) => post_displacing(engine, mailbox, bytes, message),
+    engine.caller()?;
+    match displaced_at(open_to(engine, mailbox, bytes, false)?) {
+        Some(oldest) => post_displacing(engine, mailbox, bytes, oldest),
         None => post(engine, mailbox, bytes, None),
     }
 }

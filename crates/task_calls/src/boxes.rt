@@ -18,11 +18,7 @@ pub fn create_mailbox<S: Store, O: Order>(
 ) -> Result<Answer, Refusal>
     ensures { Does S.Store O.Order (CreateMailbox number capacity size) engine.old (Answered (outcome result)) [] engine.new }
 {
-    if engine.is_answer_due() {
-        return Err(Refusal::AnswerDue {
-            task: engine.running(),
-        });
-    }
+    engine.caller()?;
     if number > LAST_MAILBOX {
         return Err(Refusal::BadNumber { given: number });
     }
@@ -43,18 +39,8 @@ pub fn remove_mailbox<S: Store, O: Order>(
 ) -> Result<Answer, Refusal>
     ensures { Does S.Store O.Order (RemoveMailbox mailbox) engine.old (Answered (outcome result)) [] engine.new }
 {
-    if engine.is_answer_due() {
-        return Err(Refusal::AnswerDue {
-            task: engine.running(),
-        });
-    }
-    if mailbox > LAST_MAILBOX {
-        return Err(Refusal::BadNumber { given: mailbox });
-    }
-    let Some(row) = engine.tables.mailboxes.find(mailbox) else {
-        return Err(Refusal::NoMailbox { mailbox });
-    };
-    if !row.is_empty() {
+    engine.caller()?;
+    if !engine.mailbox(mailbox)?.is_empty() {
         return Err(Refusal::NotEmpty { mailbox });
     }
     engine.tables.mailboxes.close(mailbox);

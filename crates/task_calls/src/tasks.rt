@@ -20,11 +20,7 @@ pub fn create_task<S: Store, O: Order>(
 ) -> Result<Answer, Refusal>
     ensures { Does S.Store O.Order (CreateTask number deadline level) engine.old (Answered (outcome result)) [] engine.new }
 {
-    if engine.is_answer_due() {
-        return Err(Refusal::AnswerDue {
-            task: engine.running(),
-        });
-    }
+    engine.caller()?;
     if number == 0 || number > LAST_TASK {
         return Err(Refusal::BadNumber { given: number });
     }
@@ -47,13 +43,7 @@ pub fn create_task<S: Store, O: Order>(
 pub fn terminate<S: Store, O: Order>(engine: &mut Engine<S, O>) -> Result<Answer, Refusal>
     ensures { Does S.Store O.Order Terminate engine.old (Answered (outcome result)) [] engine.new }
 {
-    let task = engine.running();
-    if engine.is_answer_due() {
-        return Err(Refusal::AnswerDue { task });
-    }
-    if task == 0 {
-        return Err(Refusal::IdleTask { task });
-    }
+    engine.busy_caller()?;
     engine.tables.roster.finish();
     Ok(plainly(Status::Ok))
 }

@@ -18,7 +18,7 @@ pub fn init<S: Store, O: Order>(mut store: S, order: O, first: u32) -> Engine<S,
     store.clear();
     let tables = Tables {
         counter: 0,
-        next: first as u64,
+        next: Some(first),
         roster: Roster::idle(),
         mailboxes: Mailboxes::none(),
         counts: Counts::none(),
@@ -33,8 +33,7 @@ pub fn init<S: Store, O: Order>(mut store: S, order: O, first: u32) -> Engine<S,
 pub fn run<S: Store, O: Order>(engine: &mut Engine<S, O>)
     ensures { Does S.Store O.Order Run engine.old Silent [] engine.new }
 {
-    let tables = &mut engine.tables;
-    tables.counter = 0;
+    engine.tables.counter = 0;
 }
 
 pub fn ticks<S: Store, O: Order>(engine: &Engine<S, O>) -> u32
@@ -47,10 +46,11 @@ pub fn ticks<S: Store, O: Order>(engine: &Engine<S, O>) -> u32
 pub fn deadline<S: Store, O: Order>(engine: &Engine<S, O>) -> u32
     ensures { Does S.Store O.Order Deadline engine.now (Number result) [] engine.now }
 {
-    match engine.tables.roster.task(engine.running()) {
-        Some(task) => task.urgency.deadline,
-        None => 0,
-    }
+    engine
+        .tables
+        .roster
+        .task(engine.running())
+        .map_or(0, |task| task.urgency.deadline)
 }
 
 pub fn running<S: Store, O: Order>(engine: &Engine<S, O>) -> TaskNumber

@@ -13,16 +13,12 @@ use store::Store;
 pub fn wait<S: Store, O: Order>(engine: &mut Engine<S, O>, ticks: u32) -> Result<Answer, Refusal>
     ensures { Does S.Store O.Order (Wait ticks) engine.old (Answered (outcome result)) [] engine.new }
 {
-    let task = engine.running();
-    if engine.is_answer_due() {
-        return Err(Refusal::AnswerDue { task });
-    }
-    if task == 0 {
-        return Err(Refusal::IdleTask { task });
-    }
-    let Some(until) = engine.tables.counter.checked_add(ticks) else {
-        return Err(Refusal::TooLong { task });
-    };
+    let task = engine.busy_caller()?;
+    let until = engine
+        .tables
+        .counter
+        .checked_add(ticks)
+        .ok_or(Refusal::TooLong { task })?;
     engine.block(Activity::Asleep { until });
     Ok(plainly(Status::Blocked))
 }
@@ -34,13 +30,7 @@ pub fn set_deadline<S: Store, O: Order>(
 ) -> Result<Answer, Refusal>
     ensures { Does S.Store O.Order (SetDeadline deadline) engine.old (Answered (outcome result)) [] engine.new }
 {
-    let task = engine.running();
-    if engine.is_answer_due() {
-        return Err(Refusal::AnswerDue { task });
-    }
-    if task == 0 {
-        return Err(Refusal::IdleTask { task });
-    }
+    engine.busy_caller()?;
     engine.reenter(deadline);
     Ok(plainly(Status::Ok))
 }
@@ -52,11 +42,7 @@ pub fn set_ticks<S: Store, O: Order>(
 ) -> Result<Answer, Refusal>
     ensures { Does S.Store O.Order (SetTicks ticks) engine.old (Answered (outcome result)) [] engine.new }
 {
-    if engine.is_answer_due() {
-        return Err(Refusal::AnswerDue {
-            task: engine.running(),
-        });
-    }
+    engine.caller()?;
     engine.tables.counter = ticks;
     Ok(plainly(Status::Ok))
 }
