@@ -1,5 +1,5 @@
 // The two sends.
-ghost use Rattle.std.specs.Prelude.{◌≡◌, [], ◌∷◌, cond, is_ok, Some, None, Ok, Err, MatchResult};
+ghost use Rattle.std.specs.Prelude.{◌≡◌, [], ◌∷◌, cond, Some, None, Ok, Err, MatchResult};
 ghost use Rattle.store.specs.Refusal.{tried};
 ghost use Rattle.refusals.specs.Refusals.{outcome, told};
 ghost use Rattle.art.specs.Record.{SendNoWait, SendWait};
@@ -21,8 +21,7 @@ fn open_to<'a, S: Store, O: Order>(
     bytes: &[u8],
     waiting: bool,
 ) -> Result<&'a Mailbox, Refusal>
-    ensures value { MatchResult result (λ row. (view S.Store engine.now).mailboxes mailbox ≡ Some (meaning row.now)) (λ refusal. tried (bad_mailbox mailbox ∷ no_mailbox (view S.Store engine.now) mailbox ∷ wrong_size (view S.Store engine.now) mailbox bytes.now ∷ mixed (view S.Store engine.now) mailbox waiting ∷ []) mailbox ≡ Err (told refusal)) }
-    ensures open { is_ok result ≡ true → tried (bad_mailbox mailbox ∷ no_mailbox (view S.Store engine.now) mailbox ∷ wrong_size (view S.Store engine.now) mailbox bytes.now ∷ mixed (view S.Store engine.now) mailbox waiting ∷ []) mailbox ≡ Ok mailbox }
+    ensures { let rows = bad_mailbox mailbox ∷ no_mailbox (view S.Store engine.now) mailbox ∷ wrong_size (view S.Store engine.now) mailbox bytes.now ∷ mixed (view S.Store engine.now) mailbox waiting ∷ [] in MatchResult result (λ row. (Ok mailbox ≡ tried rows mailbox) × ((view S.Store engine.now).mailboxes mailbox ≡ Some (meaning row.now))) (λ refusal. Err (told refusal) ≡ tried rows mailbox) }
 {
     let row = engine.mailbox(mailbox)?;
     if bytes.len() != row.size() as usize {

@@ -33,7 +33,8 @@ pub fn init<S: Store, O: Order>(mut store: S, order: O, first: u32) -> Engine<S,
 pub fn run<S: Store, O: Order>(engine: &mut Engine<S, O>)
     ensures { Does S.Store O.Order Run engine.old Silent [] engine.new }
 {
-    engine.tables.counter = 0;
+    let tables = &mut engine.tables;
+    tables.counter = 0;
 }
 
 pub fn ticks<S: Store, O: Order>(engine: &Engine<S, O>) -> u32
