@@ -4,8 +4,9 @@
 #![tactic(auto, using(crate::proofs::Taking::takes))]
 
 mod kernels;
+mod making;
 mod running;
 mod start_up;
 
-pub use kernels::{Kernel, StartUp};
+pub use kernels::{Kernel, StartUp, Started, Starting};
 pub use start_up::init_kernel;

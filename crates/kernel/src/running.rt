@@ -1,7 +1,7 @@
 // The running kernel.
 ghost use Rattle.std.specs.Prelude.{[]};
 ghost use Rattle.refusals.specs.Refusals.{outcome};
-ghost use Rattle.art.specs.Record.{Close, Collect, CreateMailbox, CreateTask, Deadline, ReceiveNoWait, ReceiveWait, RemoveMailbox, Running, SendNoWait, SendWait, SetDeadline, SetTicks, Terminate, Tick, Ticks, Wait};
+ghost use Rattle.art.specs.Record.{Close, Collect, Deadline, ReceiveNoWait, ReceiveWait, RemoveMailbox, Running, SendNoWait, SendWait, SetDeadline, SetTicks, Terminate, Tick, Ticks, Wait};
 ghost use Rattle.art.specs.Rules.{Answered, Counted, Number, Ticked};
 ghost use Rattle.kernel.specs.Takes.{LawfulWith, Takes};
 
@@ -10,32 +10,6 @@ use art::{Answer, Counts, MailboxNumber, Order, Refusal, TaskNumber};
 use store::Store;
 
 impl<S: Store, O: Order> Kernel<S, O> {
-    // Makes a ready task.
-    pub fn create_task(
-        &mut self,
-        number: TaskNumber,
-        deadline: u32,
-        level: u8,
-    ) -> Result<Answer, Refusal>
-        ensures takes { Takes S.Store O.Order (CreateTask number deadline level) self.old.engine (Answered (outcome result)) [] self.new.engine }
-        ensures lawful { LawfulWith S.Store O.Order (CreateTask number deadline level) self.old.engine }
-    {
-        task_calls::create_task(&mut self.engine, number, deadline, level)
-    }
-
-    // Makes an empty mailbox.
-    pub fn create_mailbox(
-        &mut self,
-        number: MailboxNumber,
-        capacity: u8,
-        size: u8,
-    ) -> Result<Answer, Refusal>
-        ensures takes { Takes S.Store O.Order (CreateMailbox number capacity size) self.old.engine (Answered (outcome result)) [] self.new.engine }
-        ensures lawful { LawfulWith S.Store O.Order (CreateMailbox number capacity size) self.old.engine }
-    {
-        task_calls::create_mailbox(&mut self.engine, number, capacity, size)
-    }
-
     // Removes the running task.
     pub fn terminate(&mut self) -> Result<Answer, Refusal>
         ensures takes { Takes S.Store O.Order Terminate self.old.engine (Answered (outcome result)) [] self.new.engine }

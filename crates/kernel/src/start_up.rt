@@ -1,12 +1,11 @@
 // The start-up kernel.
 ghost use Rattle.std.specs.Prelude.{[]};
-ghost use Rattle.refusals.specs.Refusals.{outcome};
-ghost use Rattle.art.specs.Record.{CreateMailbox, CreateTask, Run};
-ghost use Rattle.art.specs.Rules.{Answered, Silent};
+ghost use Rattle.art.specs.Record.{Run};
+ghost use Rattle.art.specs.Rules.{Silent};
 ghost use Rattle.kernel.specs.Takes.{Begins, LawfulFromTheStart, LawfulWith, Takes};
 
-use crate::kernels::{Kernel, StartUp};
-use art::{Answer, MailboxNumber, Order, Refusal, TaskNumber};
+use crate::kernels::{Kernel, StartUp, Started, Starting};
+use art::Order;
 use store::Store;
 
 // Clears the store and gives a start-up kernel with task 0 alone and no mailbox.
@@ -14,45 +13,26 @@ pub fn init_kernel<S: Store, O: Order>(store: S, order: O, first: u32) -> StartU
     ensures begins { Begins S.Store O.Order first result.engine }
     ensures lawful { LawfulFromTheStart S.Store O.Order first }
 {
-    StartUp {
+    Kernel {
         engine: time_calls::init(store, order, first),
+        stage: Starting,
     }
 }
 
-impl<S: Store, O: Order> StartUp<S, O> {
-    // Makes a ready task.
-    pub fn create_task(
-        &mut self,
-        number: TaskNumber,
-        deadline: u32,
-        level: u8,
-    ) -> Result<Answer, Refusal>
-        ensures takes { Takes S.Store O.Order (CreateTask number deadline level) self.old.engine (Answered (outcome result)) [] self.new.engine }
-        ensures lawful { LawfulWith S.Store O.Order (CreateTask number deadline level) self.old.engine }
-    {
-        task_calls::create_task(&mut self.engine, number, deadline, level)
-    }
-
-    // Makes an empty mailbox.
-    pub fn create_mailbox(
-        &mut self,
-        number: MailboxNumber,
-        capacity: u8,
-        size: u8,
-    ) -> Result<Answer, Refusal>
-        ensures takes { Takes S.Store O.Order (CreateMailbox number capacity size) self.old.engine (Answered (outcome result)) [] self.new.engine }
-        ensures lawful { LawfulWith S.Store O.Order (CreateMailbox number capacity size) self.old.engine }
-    {
-        task_calls::create_mailbox(&mut self.engine, number, capacity, size)
-    }
-
+impl<S: Store, O: Order> Kernel<S, O, Starting> {
     // Sets the counter to 0 and gives the running kernel.
     pub fn run(self) -> Kernel<S, O>
         ensures takes { Takes S.Store O.Order Run self.engine Silent [] result.engine }
         ensures lawful { LawfulWith S.Store O.Order Run self.engine }
     {
-        let StartUp { mut engine } = self;
+        let Kernel {
+            mut engine,
+            stage: Starting,
+        } = self;
         time_calls::run(&mut engine);
-        Kernel { engine }
+        Kernel {
+            engine,
+            stage: Started,
+        }
     }
 }
