@@ -21,6 +21,7 @@ abbrev pub number_next : Option ℕ → ℕ
 number_next (Some n) = n
 number_next None = top + 1
 
+-- the state that an engine holds: a definition, since the Value of an impl Model can hold no table, as ℕ → Option Task
 abbrev pub view : {S O : Type 0} → Stores S → Engine S O → State
 view store k =
     record {

@@ -1,7 +1,7 @@
 -- Sends that no row of the kernel refuses are left to the store and the mailbox. Assumes nothing.
 use Rattle.std.proofs.Common.{◌≡◌, ℕ, true, false, cond, List, [], ◌∷◌, Some, None, Ok, Option, sym, ap, ◌∙◌, subst}
 use Rattle.std.proofs.lemmas.Bool.{cond-false}
-use Rattle.store.specs.Refusal.{Row, row, tried}
+use Rattle.store.specs.Refusal.{row, tried}
 use Rattle.store.specs.declared.fault.Layer.TheVariants.{Mailbox as MAILBOX}
 use Rattle.art.specs.declared.task.Message.{Message}
 use Rattle.art.specs.State.{Kind, Mailbox, State, running}

@@ -1,5 +1,5 @@
 -- A mailbox with room for a message has one of the 32 numbers. Assumes nothing.
-use Rattle.std.proofs.Common.{◌≡◌, ℕ, ◌<◌, ◌≤◌, map, take, None, subst, arith}
+use Rattle.std.proofs.Common.{ℕ, ◌<◌, ◌≤◌, map, take, None, subst, arith}
 use Rattle.std.proofs.lemmas.List.{get_or_past, length-map, length-take}
 use Rattle.mailboxes.specs.declared.Mailboxes.{Mailboxes}
 use Rattle.mailboxes.specs.Meaning.{mailbox_of, mailboxes_in, room_for_message}

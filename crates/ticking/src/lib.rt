@@ -39,6 +39,7 @@ fn withdraw_message<S: Store, O: Order>(
 }
 
 // What a tick does to one task.
+#[tactic(auto, unfolding(art::specs::Verbs::choose))]
 fn visit<S: Store, O: Order>(engine: &mut Engine<S, O>, t: TaskNumber)
     ensures { view S.Store engine.new ≡ tick_task (kind_of S.Store O.Order) (view S.Store engine.old) t ((view S.Store engine.old).tasks t) }
 {
@@ -48,18 +49,12 @@ fn visit<S: Store, O: Order>(engine: &mut Engine<S, O>, t: TaskNumber)
     let counter = engine.tables.counter;
     let reached = task.urgency.deadline <= counter;
     match task.activity {
-        Activity::Ready => {}
-        Activity::Receiving { mailbox } => {
-            if reached {
-                withdraw_receiver(engine, t, mailbox);
-            }
-        }
-        Activity::Sending { mailbox, message } => {
-            if reached {
-                withdraw_message(engine, t, mailbox, message);
-            }
+        Activity::Receiving { mailbox } if reached => withdraw_receiver(engine, t, mailbox),
+        Activity::Sending { mailbox, message } if reached => {
+            withdraw_message(engine, t, mailbox, message)
         }
         Activity::Asleep { .. } => engine.wake(t, Event::Tick { counter }),
+        _ => {}
     }
 }
 
@@ -68,7 +63,7 @@ fn visit_all<S: Store, O: Order>(engine: &mut Engine<S, O>, last: TaskNumber)
     requires { last ≤ 63 }
     ensures { view S.Store engine.new ≡ visited (kind_of S.Store O.Order) (view S.Store engine.old) (numbers_from 1 last) }
 {
-    for t in 1..last + 1 {
+    for t in 1..=last {
         visit(engine, t);
     }
 }
