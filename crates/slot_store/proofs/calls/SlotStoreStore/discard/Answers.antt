@@ -1,5 +1,5 @@
 -- A discard empties the slot that holds the number, and counts one less.
-use Rattle.std.proofs.Common.{None, refl, ap, ◌∙◌, arith, rules}
+use Rattle.std.proofs.Common.{None, ap, ◌∙◌, arith, rules}
 use mathlib.Core.Path.{fun_ext}
 use Rattle.store.specs.Meaning.{units_in}
 use Rattle.store.proofs.Answered.{discard_ok}
