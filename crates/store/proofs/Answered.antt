@@ -2,8 +2,8 @@
 use Rattle.std.proofs.Common.{◌≡◌, ℕ, ◌+◌, ◌-◌, ◌<◌, ◌≤◌, true, List, length, is_some, Some, None, Ok, Err, arith}
 use Rattle.std.proofs.lemmas.Bool.{ne_eqb, lt-ltb, le-ltb}
 use Rattle.store.specs.declared.fault.Units.{Units}
-use Rattle.store.specs.declared.fault.StoreFault.TheVariants.{Held, NotHeld, StoreFull, Cramped}
-use Rattle.store.specs.Meaning.{Contents, put_answer, copy_answer, discard_answer}
+use Rattle.store.specs.declared.fault.StoreFault.TheVariants.{Held, StoreFull}
+use Rattle.store.specs.Meaning.{Contents, put_answer, discard_answer}
 use Rattle.store.specs.Refusal.{told}
 
 -- put, of a length that is allowed
@@ -17,21 +17,7 @@ module _ (capacity : ℕ) (cost : ℕ → ℕ) (h : Contents) (used n : ℕ) (by
   pub put_ok : h n ≡ None → used + cost (length bytes) ≤ capacity → Ok tt ≡ put_answer capacity cost h used n bytes
   put_ok e l = rw (ne_eqb (length bytes) 0 (λ z. omega arith), le-ltb 128 (length bytes) short, e, le-ltb capacity (used + cost (length bytes)) l)
 
--- copy
-module _ (h : Contents) (n : ℕ) (buffer : List ℕ) where
-  pub copy_missing : h n ≡ None → Err (told (NotHeld n)) ≡ copy_answer h n buffer
-  copy_missing e = rw e
-
-  pub copy_short : (bytes : List ℕ) → h n ≡ Some bytes → length buffer < length bytes → Err (told (Cramped n)) ≡ copy_answer h n buffer
-  copy_short bytes e l = rw (e, lt-ltb (length buffer) (length bytes) l)
-
-  pub copy_ok : (bytes : List ℕ) (l : ℕ) → h n ≡ Some bytes → l ≡ length bytes → length bytes ≤ length buffer → Ok l ≡ copy_answer h n buffer
-  copy_ok bytes l e i le = rw (e, le-ltb (length buffer) (length bytes) le, i)
-
 -- discard
 module _ (h : Contents) (n : ℕ) where
-  pub discard_missing : h n ≡ None → Err (told (NotHeld n)) ≡ discard_answer h n
-  discard_missing e = rw e
-
   pub discard_ok : (bytes : List ℕ) → h n ≡ Some bytes → Ok tt ≡ discard_answer h n
   discard_ok bytes e = rw e
