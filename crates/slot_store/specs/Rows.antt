@@ -10,7 +10,7 @@ use Rattle.store.specs.Listing.{Entry, entry, lookup, distinct, total}
 use Rattle.store.proofs.Listed.{some_not_none, lookup_insert, distinct_insert, total_insert, removed, lookup_removed, lookup_there}
 use Rattle.slot_store.specs.declared.slot.Message.{Message}
 use Rattle.slot_store.specs.Slots.{one_unit, Slot, is_free, holds_number, bytes_of, held_by, only, messages, Changed}
-use Rattle.slot_store.specs.First.{first_within, first_passes, none_passes}
+use Rattle.slot_store.specs.First.{first_within, first_passes, all_fail}
 
 -- the messages before a place
 abbrev before : List Slot → ℕ → List Entry
@@ -38,7 +38,7 @@ free_none None h = refl
 free_none (Some m) h = let z : ◌≡◌ {A = ℕ} 0 1 = cc in absurd (omega arith)
 
 split_free : (xs : List Slot) (i : ℕ) → Some i ≡ position is_free xs → messages xs ≡ before xs i ++ behind xs i
-split_free xs i at' = split_at xs i None (first_within is_free xs i None at') ∙ rw (free_none (slice_index_or xs i None) (first_passes is_free xs i None at'))
+split_free xs i at' = split_at xs i None (first_within is_free xs i at') ∙ rw (free_none (slice_index_or xs i None) (first_passes is_free xs i None at'))
 
 -- where a slot holds a number, the message in it
 pub record In (n : ℕ) (x : Slot) : Type 0 where
@@ -56,7 +56,7 @@ at_number xs i n d at' = in_slot n (slice_index_or xs i d) (first_passes (holds_
 split_held : (xs : List Slot) (i n : ℕ) (d : Slot) (at' : Some i ≡ position (holds_number n) xs) → messages xs ≡ before xs i ++ entry n (bytes_of (at_number xs i n d at').message) ∷ behind xs i
 split_held xs i n d at' =
     let x = at_number xs i n d at' in
-    split_at xs i d (first_within (holds_number n) xs i d at') ∙ ap (λ s. before xs i ++ (held_by s ++ behind xs i)) x.is
+    split_at xs i d (first_within (holds_number n) xs i at') ∙ ap (λ s. before xs i ++ (held_by s ++ behind xs i)) x.is
     ∙ ap (λ k. before xs i ++ entry k (bytes_of x.message) ∷ behind xs i) (sym x.number)
 
 -- a number that no slot holds
@@ -66,7 +66,7 @@ absent_all n (None ∷ xs) h = absent_all n xs h.1
 absent_all n (Some m ∷ xs) h = let a : nat_eq n m.number ≡ false = h.0 in rw a (absent_all n xs h.1)
 
 pub absent : (n : ℕ) (xs : List Slot) → None ≡ position (holds_number n) xs → lookup (messages xs) n ≡ None
-absent n xs h = absent_all n xs (recursion_from_All (λ x. holds_number n x ≡ false) xs (none_passes (holds_number n) xs h))
+absent n xs h = absent_all n xs (recursion_from_All (λ x. holds_number n x ≡ false) xs (all_fail (holds_number n) xs h))
 
 -- a number that a slot holds
 pub there : (xs : List Slot) (i n : ℕ) (d : Slot) → distinct (messages xs) ≡ true → (at' : Some i ≡ position (holds_number n) xs) → lookup (messages xs) n ≡ Some (bytes_of (at_number xs i n d at').message)
@@ -95,7 +95,7 @@ full_all (None ∷ xs) h = let f = h.0 in let z : ◌≡◌ {A = ℕ} 0 1 = cc i
 full_all (Some m ∷ xs) h = omega (arith, full_all xs h.1)
 
 pub full : (xs : List Slot) → None ≡ position is_free xs → total one_unit (messages xs) ≡ length xs
-full xs h = full_all xs (recursion_from_All (λ x. is_free x ≡ false) xs (none_passes is_free xs h))
+full xs h = full_all xs (recursion_from_All (λ x. is_free x ≡ false) xs (all_fail is_free xs h))
 
 -- one message more
 pub record More (xs ys : List Slot) (n : ℕ) (bytes : List ℕ) : Type 0 where
@@ -109,7 +109,7 @@ more xs ys i n bytes once none at' ch =
     let front = before xs i in
     let back = behind xs i in
     let old = split_free xs i at' in
-    let new = split_changed xs ys i (only n bytes) (first_within is_free xs i None at') ch in
+    let new = split_changed xs ys i (only n bytes) (first_within is_free xs i at') ch in
     let none' : lookup (front ++ back) n ≡ None = rw old at none in
     record {
       long = ap length ch.changes ∙ length-set xs i ch.slot;
@@ -131,7 +131,7 @@ less xs ys i n once at' ch =
     let back = behind xs i in
     let e = entry n (bytes_of (at_number xs i n None at').message) in
     let old = split_held xs i n None at' in
-    let new = split_changed xs ys i [] (first_within (holds_number n) xs i None at') ch in
+    let new = split_changed xs ys i [] (first_within (holds_number n) xs i at') ch in
     let once' : distinct (front ++ e ∷ back) ≡ true = rw old at once in
     record {
       long = ap length ch.changes ∙ length-set xs i ch.slot;
