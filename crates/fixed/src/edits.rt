@@ -48,7 +48,7 @@ impl<T: Copy, const N: usize> FixedList<T, N> {
     }
 
     // One item more, at a place; those from there on move up. By a loop: with `copy_within`, which moves blocks of any length
-    // either way, a blocking exchange costs 50 instructions more.
+    // either way, a blocking exchange costs some 45 instructions more.
     pub fn insert(&mut self, i: usize, x: T)
         requires place { i ≤ length (items self.old) }
         requires room { length (items self.old) < N }
