@@ -79,7 +79,6 @@ impl<S: Store, O: Order> Engine<S, O> {
 
     // The running task leaves the ready list to wait or to sleep.
     pub fn block(&mut self, activity: Activity)
-        requires { 0 < running (view S.Store self.old) }
         ensures { view S.Store self.new ≡ block (view S.Store self.old) activity }
     {
         self.tables.roster.stop(activity);

@@ -1,2 +1,1 @@
 mod Displacing
-mod Room

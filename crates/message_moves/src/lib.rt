@@ -2,9 +2,8 @@
 // their callers.
 #![tactic(auto)]
 
-ghost use Rattle.std.specs.Prelude.{◌≡◌, ◌<◌, ◌≤◌, true, [], is_some, Some, None, Ok};
+ghost use Rattle.std.specs.Prelude.{◌≡◌, true, [], is_some, Some, None, Ok};
 ghost use Rattle.refusals.specs.Refusals.{outcome};
-ghost use Rattle.art.specs.State.{running};
 ghost use Rattle.art.specs.Verbs.{mailbox_at, oldest, use_number, wake_sender};
 ghost use Rattle.art.specs.Rules.{Answered, arrive};
 ghost use Rattle.mailboxes.specs.Meaning.{room_for_message};
@@ -25,7 +24,6 @@ fn arrive<S: Store, O: Order>(
 ) -> Answer
     requires next { message ≡ (view S.Store engine.old).next }
     requires room { room_for_message ((view S.Store engine.old).mailboxes mailbox) }
-    requires run { is_some sender ≡ true → 0 < running (view S.Store engine.old) }
     ensures { Gives (arrive (kind_of S.Store O.Order) (use_number (view S.Store engine.old)) mailbox message sender displaced (oldest (mailbox_at (view S.Store engine.old) mailbox).receivers)) (Answered (Ok result)) [] (view S.Store engine.new) }
 {
     engine.tables.next = message.checked_add(1);
@@ -58,7 +56,6 @@ pub fn post<S: Store, O: Order>(
     sender: Option<TaskNumber>,
 ) -> Result<Answer, Refusal>
     requires room { room_for_message ((view S.Store engine.old).mailboxes mailbox) }
-    requires run { is_some sender ≡ true → 0 < running (view S.Store engine.old) }
     ensures { Gives (numbered (kind_of S.Store O.Order) (view S.Store engine.old) mailbox bytes.now sender None) (Answered (outcome result)) [] (view S.Store engine.new) }
 {
     let message = engine.next_number()?;
