@@ -1,14 +1,15 @@
 // The two sends.
-ghost use Rattle.std.specs.Prelude.{◌≡◌, [], ◌∷◌, cond, Some, None, Ok, Err, MatchResult};
+ghost use Rattle.std.specs.Prelude.{◌≡◌, ◌<◌, [], ◌∷◌, cond, Some, None, Ok, Err, MatchResult};
 ghost use Rattle.store.specs.Refusal.{tried};
 ghost use Rattle.refusals.specs.Refusals.{outcome, told};
 ghost use Rattle.art.specs.Record.{SendNoWait, SendWait};
 ghost use Rattle.art.specs.Rules.{Answered, bad_mailbox, mixed, no_mailbox, wrong_size};
+ghost use Rattle.art.specs.State.{running};
 ghost use Rattle.art.specs.Verbs.{fills, oldest};
 ghost use Rattle.mailboxes.specs.Meaning.{meaning, room_for_message};
-ghost use Rattle.engine.specs.Model.{Does, view};
+ghost use Rattle.engine.specs.Model.{Does, Gives, kind_of, numbered, view};
 
-use art::{Answer, MailboxNumber, Message, Order, Refusal};
+use art::{Answer, MailboxNumber, Message, Order, Refusal, TaskNumber};
 use engine::Engine;
 use mailboxes::Mailbox;
 use message_moves::{post, post_displacing};
@@ -33,6 +34,20 @@ fn open_to<'a, S: Store, O: Order>(
     Ok(row)
 }
 
+// The message comes with its sender, which waits with it where no receiver does.
+fn post_from<S: Store, O: Order>(
+    engine: &mut Engine<S, O>,
+    mailbox: MailboxNumber,
+    bytes: &[u8],
+    task: TaskNumber,
+) -> Result<Answer, Refusal>
+    requires room { room_for_message ((view S.Store engine.old).mailboxes mailbox) }
+    requires run { 0 < running (view S.Store engine.old) }
+    ensures { Gives (numbered (kind_of S.Store O.Order) (view S.Store engine.old) mailbox bytes.now (Some task) None) (Answered (outcome result)) [] (view S.Store engine.new) }
+{
+    post(engine, mailbox, bytes, Some(task))
+}
+
 // Sends a message, and waits with it where no receiver waits for it.
 pub fn send_wait<S: Store, O: Order>(
     engine: &mut Engine<S, O>,
@@ -45,7 +60,7 @@ pub fn send_wait<S: Store, O: Order>(
     if open_to(engine, mailbox, bytes, true)?.messages_fill() {
         return Err(Refusal::Full { mailbox });
     }
-    post(engine, mailbox, bytes, Some(task))
+    post_from(engine, mailbox, bytes, task)
 }
 
 // The message that a send displaces: the oldest where messages fill the mailbox.

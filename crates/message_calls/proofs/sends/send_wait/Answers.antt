@@ -22,4 +22,4 @@ pub returns : goal.returns
 returns g c =
     let s = view g.S.Store c.args.engine.now in
     sent_waiting (kind_of g.S.Store g.O.Order) s c.args.mailbox c.args.bytes.now (meaning c.in_ok-open_to.field-0.now) _ _ _ _
-    c.in_ok-task.ensures c.in_ok-open_to.ensures.0 c.in_ok-open_to.ensures.1 (sym c.messages_fill.ensures.value ∙ c.if-messages_fill.false) c.post.ensures
+    c.in_ok-task.ensures c.in_ok-open_to.ensures.0 c.in_ok-open_to.ensures.1 (sym c.messages_fill.ensures.value ∙ c.if-messages_fill.false) c.post_from.ensures
