@@ -19,7 +19,7 @@ pub fn receive_wait<S: Store, O: Order>(
 {
     let task = engine.busy_caller()?;
     let row = engine.mailbox(mailbox)?;
-    if buffer.len() < row.size() as usize {
+    if buffer.len() < usize::from(row.size()) {
         return Err(Refusal::ShortBuffer { mailbox });
     }
     if row.receivers_fill() {
@@ -43,7 +43,7 @@ pub fn receive_no_wait<S: Store, O: Order>(
 {
     engine.caller()?;
     let row = engine.mailbox(mailbox)?;
-    if buffer.len() < row.size() as usize {
+    if buffer.len() < usize::from(row.size()) {
         return Err(Refusal::ShortBuffer { mailbox });
     }
     let message = row.oldest().ok_or(Refusal::Empty { mailbox })?;

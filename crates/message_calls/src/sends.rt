@@ -1,10 +1,9 @@
 // The two sends.
-ghost use Rattle.std.specs.Prelude.{◌≡◌, ◌<◌, [], ◌∷◌, cond, Some, None, Ok, Err, MatchResult};
+ghost use Rattle.std.specs.Prelude.{◌≡◌, [], ◌∷◌, cond, Some, None, Ok, Err, MatchResult};
 ghost use Rattle.store.specs.Refusal.{tried};
 ghost use Rattle.refusals.specs.Refusals.{outcome, told};
 ghost use Rattle.art.specs.Record.{SendNoWait, SendWait};
 ghost use Rattle.art.specs.Rules.{Answered, bad_mailbox, mixed, no_mailbox, wrong_size};
-ghost use Rattle.art.specs.State.{running};
 ghost use Rattle.art.specs.Verbs.{fills, oldest};
 ghost use Rattle.mailboxes.specs.Meaning.{meaning, room_for_message};
 ghost use Rattle.engine.specs.Model.{Does, Gives, kind_of, numbered, view};
@@ -25,7 +24,7 @@ fn open_to<'a, S: Store, O: Order>(
     ensures { let rows = bad_mailbox mailbox ∷ no_mailbox (view S.Store engine.now) mailbox ∷ wrong_size (view S.Store engine.now) mailbox bytes.now ∷ mixed (view S.Store engine.now) mailbox waiting ∷ [] in MatchResult result (λ row. (Ok mailbox ≡ tried rows mailbox) × ((view S.Store engine.now).mailboxes mailbox ≡ Some (meaning row.now))) (λ refusal. Err (told refusal) ≡ tried rows mailbox) }
 {
     let row = engine.mailbox(mailbox)?;
-    if bytes.len() != row.size() as usize {
+    if bytes.len() != usize::from(row.size()) {
         return Err(Refusal::WrongSize { mailbox });
     }
     if row.is_other_mode(waiting) {
@@ -41,8 +40,7 @@ fn post_from<S: Store, O: Order>(
     bytes: &[u8],
     task: TaskNumber,
 ) -> Result<Answer, Refusal>
-    requires room { room_for_message ((view S.Store engine.old).mailboxes mailbox) }
-    requires run { 0 < running (view S.Store engine.old) }
+    requires { room_for_message ((view S.Store engine.old).mailboxes mailbox) }
     ensures { Gives (numbered (kind_of S.Store O.Order) (view S.Store engine.old) mailbox bytes.now (Some task) None) (Answered (outcome result)) [] (view S.Store engine.new) }
 {
     post(engine, mailbox, bytes, Some(task))

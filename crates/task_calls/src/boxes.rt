@@ -22,7 +22,7 @@ pub fn create_mailbox<S: Store, O: Order>(
     if number > LAST_MAILBOX {
         return Err(Refusal::BadNumber { given: number });
     }
-    if capacity == 0 || capacity > MOST_ENTRIES || size == 0 || size as usize > MAX_LENGTH {
+    if capacity == 0 || capacity > MOST_ENTRIES || size == 0 || usize::from(size) > MAX_LENGTH {
         return Err(Refusal::BadShape { given: number });
     }
     if engine.tables.mailboxes.find(number).is_some() {
