@@ -1,16 +1,18 @@
 -- The exit of a `?` in a call, where rows that were tried refuse it; what is left to show where they let it pass.
 -- Assumes nothing.
-use Rattle.std.proofs.Common.{◌≡◌, ℕ, Bool, true, false, cond, List, [], ◌∷◌, ◌++◌, Ok, Err, Result, sym, subst, refl, arith}
+use Rattle.std.proofs.Common.{◌≡◌, ℕ, ◌≤◌, Bool, true, false, cond, List, [], ◌∷◌, ◌++◌, Ok, Err, Option, Result, sym, subst, refl, arith}
 use Rattle.std.specs.Result.{IsErrAnd, MatchResult}
+use Rattle.std.proofs.lemmas.Bool.{le-ltb}
 use Rattle.std.proofs.lemmas.Result.{err_from_is_err_and}
 use Rattle.store.specs.Refusal.{Row, Told, tried}
 use Rattle.refusals.specs.declared.refusal.Refusal.{Refusal}
 use Rattle.refusals.specs.Refusals.{outcome, told}
 use Rattle.answers.specs.declared.answer.Answer.{Answer}
-use Rattle.art.specs.State.{State}
+use Rattle.art.specs.declared.task.Message.{Message}
+use Rattle.art.specs.State.{Kind, State, top}
 use Rattle.art.specs.Rules.{Answered, Effect, Reply, unless}
 use Rattle.art.proofs.Tried.{accepted_by, refused_by}
-use Rattle.engine.specs.Model.{Gives}
+use Rattle.engine.specs.Model.{Gives, numbered, posted}
 
 module _ (s : State) (buffer : List ℕ) (rows : List Row) (rest : Effect) {A : Type 0} (z : A) where
   -- the refusal x is passed on
@@ -47,3 +49,7 @@ row_none y z false u o q g = g q
 pub value_tried : {A : Type 0} (rows : List Row) (y z : A) → Ok y ≡ tried rows z → y ≡ z
 value_tried [] y z q = cc
 value_tried (r ∷ rows) y z q = row_none y z r.holds r.tells (tried rows z) q (value_tried rows y z)
+
+-- where the next message has a number, what is asked first holds back nothing
+pub numbered_posted : (kind : Kind) (s : State) (m : ℕ) (bytes : List ℕ) (sender : Option ℕ) (x : Option Message) → s.next ≤ top → numbered kind s m bytes sender x ≡ posted kind s m bytes sender x
+numbered_posted kind s m bytes sender x h = rw (le-ltb top s.next h) refl

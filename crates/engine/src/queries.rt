@@ -49,6 +49,7 @@ impl<S: Store, O: Order> Engine<S, O> {
         if bytes.is_empty() || bytes.len() > MAX_LENGTH {
             return Err(StoreFault::BadLength { message });
         }
+        // A store is not asked whether it holds a number, so a copy that succeeds tells it.
         if self.units_of(message).is_ok() {
             return Err(StoreFault::Held { message });
         }

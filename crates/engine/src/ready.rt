@@ -47,7 +47,8 @@ impl<S: Store, O: Order> Engine<S, O> {
             .unwrap_or(self.tables.roster.ready_len())
     }
 
-    // A task that is not ready becomes the ready task x, and enters the ready list.
+    // A task that is not ready becomes the ready task x, and enters the ready list. It asks for a number that has a place, since
+    // x is there afterwards.
     pub fn admit(&mut self, t: TaskNumber, x: Task)
         requires number { t < 64 }
         requires before { stands_ready ((view S.Store self.old).tasks t) ≡ false }
@@ -84,7 +85,8 @@ impl<S: Store, O: Order> Engine<S, O> {
         self.tables.roster.stop(activity);
     }
 
-    // The running task leaves the ready list, and enters it again with another deadline.
+    // The running task leaves the ready list, and enters it again with another deadline. It asks for a task that runs, since the
+    // list has room for the number that leaves it.
     pub fn reenter(&mut self, deadline: u32)
         requires { 0 < running (view S.Store self.old) }
         ensures { view S.Store self.new ≡ after_set_deadline (kind_of S.Store O.Order) (view S.Store self.old) deadline }

@@ -72,6 +72,7 @@ fn measure<S: Store + Drop>(store: S, turn: Turn, tasks: u8, turns: u32) -> u32 
     }
 }
 
+// The choice of a store stands in both programs that count: each hands it to a generic function of its own.
 fn run(rt: &HostRuntime) -> anyhow::Result<()> {
     let Arguments {
         kind,

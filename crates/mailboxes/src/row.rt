@@ -47,7 +47,7 @@ impl Mailbox {
         self.receivers.as_slice().first().copied()
     }
 
-    // Whether there is a message, and its sender's waiting differs from the one given.
+    // Whether there is a message, and its sender's waiting differs from the one given. The mode is a bool, as in the rules.
     pub fn is_other_mode(&self, waiting: bool) -> bool
         ensures { result ≡ other_mode waiting (oldest (meaning self.now).messages) }
     {

@@ -1,4 +1,4 @@
-// The two receives.
+// The two receives. Each tests its buffer itself: a function for that one test, with its contract, would be longer than both.
 ghost use Rattle.refusals.specs.Refusals.{outcome};
 ghost use Rattle.art.specs.Record.{ReceiveNoWait, ReceiveWait};
 ghost use Rattle.art.specs.Rules.{Answered};

@@ -6,7 +6,7 @@ ghost use Rattle.packed_store.specs.Inside.{all_fit};
 
 pub(crate) const SIZE: usize = 4096;
 
-// The first `used` bytes of the memory are messages side by side, no number twice.
+// The first `used` bytes of the memory are messages side by side, no number twice. The memory is fixed, with no heap.
 #[derive(Drop)]
 pub struct PackedStore {
     pub(crate) memory: [u8; SIZE],

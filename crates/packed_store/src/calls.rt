@@ -21,6 +21,7 @@ impl PackedStore {
     }
 }
 
+// Written out: no derive makes so long an array.
 impl Default for PackedStore {
     ghost is_default = { λ s. (contents s ≡ nothing) × (s.used ≡ 0) };
 
@@ -50,6 +51,7 @@ impl Store for PackedStore {
 
     ghost tally = { used_total_of };
 
+    // From usize to u32 there is no `From`, so casts that are proved to lose nothing stand here and below.
     fn capacity() -> u32 {
         SIZE as u32
     }
@@ -85,6 +87,7 @@ impl Store for PackedStore {
         Ok(())
     }
 
+    // By `let .. else`: with `ok_or(..)?` a copy from the packed store costs 54 instructions in place of 44.
     fn copy(&self, number: u32, buffer: &mut [u8]) -> Result<usize, StoreFault> {
         let Some(message) = self.message(number) else {
             return Err(StoreFault::NotHeld { message: number });

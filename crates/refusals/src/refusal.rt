@@ -106,6 +106,7 @@ impl Refusal {
     }
 }
 
+// Written out, since contracts above name `from_gives`: a derived impl would promise nothing.
 impl From<StoreFault> for Refusal {
     ghost from_gives = { λ fault r. told r ≡ store_told fault };
 

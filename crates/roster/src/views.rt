@@ -15,7 +15,7 @@ impl Roster {
         *self.tasks.get(usize::from(t))?
     }
 
-    // The running task: the first of the ready list.
+    // The running task: the first of the ready list, or else the number of the idle task, as the rules have it.
     pub fn running(&self) -> TaskNumber
         ensures { result ≡ first (ready_in self.now) }
     {

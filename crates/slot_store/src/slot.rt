@@ -1,4 +1,4 @@
-// A message as a slot holds it. A slot that holds none is free.
+// A message as a slot holds it, in fixed memory with no heap. A slot that holds none is free.
 ghost use Rattle.std.specs.Prelude.{◌≡◌, ◌≤◌, length as long};
 
 use store::MAX_LENGTH;

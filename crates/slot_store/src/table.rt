@@ -10,6 +10,7 @@ pub(crate) const SLOTS: usize = 64;
 #[derive(Drop)]
 pub struct SlotStore {
     pub(crate) slots: [Option<Message>; SLOTS],
+    // Kept beside the slots, so that `used` answers without looking at them.
     pub(crate) used: u32,
     ghost whole: { length slots ≡ 64 },
     ghost once: { distinct (messages slots) ≡ true },

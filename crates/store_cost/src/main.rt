@@ -61,6 +61,7 @@ fn measure<S: Store + Drop>(mut store: S, turn: Turn, held: u32, turns: u32) -> 
     }
 }
 
+// The choice of a store stands in both programs that count: each hands it to a generic function of its own.
 fn run(rt: &HostRuntime) -> anyhow::Result<()> {
     let Arguments {
         kind,
