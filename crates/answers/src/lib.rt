@@ -5,4 +5,6 @@ mod answer;
 mod limits;
 
 pub use answer::{Answer, Counts, Status};
-pub use limits::{LAST_LEVEL, LAST_MAILBOX, LAST_TASK, MOST_ENTRIES, MailboxNumber, TaskNumber};
+pub use limits::{
+    IDLE_TASK, LAST_LEVEL, LAST_MAILBOX, LAST_TASK, MOST_ENTRIES, MailboxNumber, TaskNumber,
+};

@@ -6,6 +6,8 @@ pub type TaskNumber = u8;
 
 pub const LAST_TASK: TaskNumber = 63;
 
+pub const IDLE_TASK: TaskNumber = 0;
+
 // A mailbox by its number: 0 to LAST_MAILBOX.
 pub type MailboxNumber = u8;
 

@@ -7,8 +7,8 @@ mod order;
 mod task;
 
 pub use answers::{
-    Answer, Counts, LAST_LEVEL, LAST_MAILBOX, LAST_TASK, MOST_ENTRIES, MailboxNumber, Status,
-    TaskNumber,
+    Answer, Counts, IDLE_TASK, LAST_LEVEL, LAST_MAILBOX, LAST_TASK, MOST_ENTRIES, MailboxNumber,
+    Status, TaskNumber,
 };
 pub use order::{DeadlineOrder, LevelOrder, Order};
 pub use refusals::Refusal;
