@@ -47,6 +47,10 @@ abbrev pub full_row : ℕ → ℕ → ℕ → Bool → Row
 full_row n wanted free holds =
     record { tells = record { number = 20; layer = Store; place = n; units = Some (record { wanted = wanted; free = free }) }; holds = holds }
 
+-- a message of a length that is not allowed: BAD_LENGTH
+abbrev pub length_rows : ℕ → List ℕ → List Row
+length_rows n bytes = row 17 Store n (length bytes == 0 || nat_lt 128 (length bytes)) ∷ []
+
 -- put: BAD_LENGTH, HELD, STORE_FULL
 abbrev pub put_rows : ℕ → (ℕ → ℕ) → Contents → ℕ → ℕ → List ℕ → List Row
 put_rows capacity cost h used n bytes =

@@ -7,10 +7,10 @@ ghost use Rattle.store.specs.Listing.{Entry, Lists, total};
 ghost use Rattle.store.specs.Meaning.{Allowed, Contents, CostRules, buffer_after_copy, bytes_in, copy_answer, discard_answer, held_after_discard, held_after_put, nothing, put_answer, units_in, used_after_put};
 ghost use Rattle.store.specs.Refusal.{outcome};
 
-mod blocks;
+mod copies;
 mod fault;
 
-pub use blocks::{close_gap, copy_front};
+pub use copies::{check_length, close_gap, copy_front, copy_out};
 pub use fault::{Layer, Particulars, StoreFault, Units};
 
 // The longest message, in bytes.
