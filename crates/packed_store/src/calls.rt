@@ -7,7 +7,7 @@ ghost use Rattle.packed_store.specs.Laws.{costs_hold, lengths_allowed, listing, 
 
 use crate::arena::{PackedStore, SIZE};
 use crate::layout::HEADER;
-use store::{MAX_LENGTH, Store, StoreFault, Units, copy_front};
+use store::{Store, StoreFault, Units, check_length, copy_out};
 
 impl PackedStore {
     pub fn new() -> PackedStore
@@ -65,9 +65,7 @@ impl Store for PackedStore {
     }
 
     fn put(&mut self, number: u32, bytes: &[u8]) -> Result<(), StoreFault> {
-        if bytes.is_empty() || bytes.len() > MAX_LENGTH {
-            return Err(StoreFault::BadLength { message: number });
-        }
+        check_length(number, bytes)?;
         if self.holds(number) {
             return Err(StoreFault::Held { message: number });
         }
@@ -87,16 +85,8 @@ impl Store for PackedStore {
         Ok(())
     }
 
-    // By `let .. else`: with `ok_or(..)?` a copy from the packed store costs 54 instructions in place of 44.
     fn copy(&self, number: u32, buffer: &mut [u8]) -> Result<usize, StoreFault> {
-        let Some(message) = self.message(number) else {
-            return Err(StoreFault::NotHeld { message: number });
-        };
-        if buffer.len() < message.len() {
-            return Err(StoreFault::Cramped { message: number });
-        }
-        copy_front(buffer, message);
-        Ok(message.len())
+        copy_out(self.message(number), number, buffer)
     }
 
     fn discard(&mut self, number: u32) -> Result<(), StoreFault> {

@@ -1,4 +1,6 @@
--- The first place that passes a test: a loop finds it, and what an answer says of the list. Assumes nothing.
+-- The first place that passes a test. Of `position`: what it says of the list that a place was found, or none.
+-- Of a loop that looks at each place in turn: its steps (first_here, first_next, first_none) end in what `position`
+-- answers. The crate's searches call `position`, and use neither those steps nor none_passes. Assumes nothing.
 use Rattle.std.specs.Prelude.{◌≡◌, ℕ, ◌+◌, ◌<◌, ◌≤◌, Bool, true, false, not, ltb, List, [], ◌∷◌, length, drop, Some, None, nat_lt, slice_index_or, position, refl}
 use Rattle.std.proofs.Common.{sym, ⊎_elim, one-add, arith}
 use Rattle.std.specs.List.{prefix_len, All, AllByRecursion, position_or_len}

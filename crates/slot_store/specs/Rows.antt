@@ -32,11 +32,12 @@ split_at xs i d h = ap messages (sym (set-get_or xs i d)) ∙ split_set xs i (sl
 split_changed : (xs ys : List Slot) (i : ℕ) (held : List Entry) → i < length xs → Changed xs i held ys → messages ys ≡ before xs i ++ (held ++ behind xs i)
 split_changed xs ys i held h ch = ap messages ch.changes ∙ split_set xs i ch.slot h ∙ ap (λ l. before xs i ++ (l ++ behind xs i)) ch.holds
 
--- at the first free slot nothing stands between
+-- a free slot holds nothing
 pub free_none : (x : Slot) → is_free x ≡ true → held_by x ≡ []
 free_none None h = refl
 free_none (Some m) h = let z : ◌≡◌ {A = ℕ} 0 1 = cc in absurd (omega arith)
 
+-- at the first free slot nothing stands between
 split_free : (xs : List Slot) (i : ℕ) → Some i ≡ position is_free xs → messages xs ≡ before xs i ++ behind xs i
 split_free xs i at' = split_at xs i None (first_within is_free xs i at') ∙ rw (free_none (slice_index_or xs i None) (first_passes is_free xs i None at'))
 

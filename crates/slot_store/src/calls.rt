@@ -8,7 +8,7 @@ ghost use Rattle.slot_store.specs.Laws.{costs_hold, lengths_allowed, listing, nu
 
 use crate::holding::{empty_all, empty_at, fill_at};
 use crate::table::{SLOTS, SlotStore};
-use store::{MAX_LENGTH, Store, StoreFault, Units, copy_front};
+use store::{Store, StoreFault, Units, check_length, copy_out};
 
 impl SlotStore {
     pub fn new() -> SlotStore
@@ -72,9 +72,7 @@ impl Store for SlotStore {
         ensures counts { self.new.used ≡ used_after_put one_unit result self.old.used bytes.now }
         ensures takes { Takes result self.old.slots number bytes.now self.new.slots }
     {
-        if bytes.is_empty() || bytes.len() > MAX_LENGTH {
-            return Err(StoreFault::BadLength { message: number });
-        }
+        check_length(number, bytes)?;
         if self.find(number).is_some() {
             return Err(StoreFault::Held { message: number });
         }
@@ -89,17 +87,8 @@ impl Store for SlotStore {
         Ok(())
     }
 
-    // By `let .. else`: with `ok_or(..)?` a copy from the packed store costs 54 instructions in place of 44.
     fn copy(&self, number: u32, buffer: &mut [u8]) -> Result<usize, StoreFault> {
-        let Some(message) = self.message(number) else {
-            return Err(StoreFault::NotHeld { message: number });
-        };
-        let bytes = message.bytes();
-        if buffer.len() < bytes.len() {
-            return Err(StoreFault::Cramped { message: number });
-        }
-        copy_front(buffer, bytes);
-        Ok(bytes.len())
+        copy_out(self.message(number), number, buffer)
     }
 
     fn discard(&mut self, number: u32) -> Result<(), StoreFault> {

@@ -1,32 +1,9 @@
-// A message as a slot holds it, and changes of slots in a row.
+// Changes of slots in a row. They are no methods of the store: a method ends with `used` counted, by the store's
+// invariant, and these leave it to their caller.
 ghost use Rattle.std.specs.Prelude.{◌≡◌, ◌<◌, ◌≤◌, [], length};
-ghost use Rattle.slot_store.specs.Slots.{Changed, bytes_of, messages, only};
+ghost use Rattle.slot_store.specs.Slots.{Changed, messages, only};
 
 use crate::slot::Message;
-use store::{MAX_LENGTH, copy_front};
-
-impl Message {
-    pub(crate) fn new(number: u32, message: &[u8]) -> Message
-        requires some { 1 ≤ length message.now }
-        requires short { length message.now ≤ 128 }
-        ensures numbered { result.number ≡ number }
-        ensures holds { bytes_of result ≡ message.now }
-    {
-        let mut bytes = [0; MAX_LENGTH];
-        copy_front(&mut bytes, message);
-        Message {
-            number,
-            length: message.len(),
-            bytes,
-        }
-    }
-
-    pub(crate) fn bytes(&self) -> &[u8]
-        ensures { result.now ≡ bytes_of self.now }
-    {
-        &self.bytes[..self.length]
-    }
-}
 
 pub(crate) fn fill_at(slots: &mut [Option<Message>], i: usize, number: u32, message: &[u8])
     requires within { i < length slots.old }

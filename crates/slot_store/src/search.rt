@@ -1,9 +1,8 @@
 // Slots looked for from the lowest on.
-ghost use Rattle.std.specs.Prelude.{◌≡◌, position, Some, None, MatchOption};
-ghost use Rattle.slot_store.specs.Slots.{bytes_of, holds_number, is_free};
+ghost use Rattle.std.specs.Prelude.{◌≡◌, position, option_map};
+ghost use Rattle.slot_store.specs.Slots.{holds_number, is_free};
 ghost use Rattle.slot_store.specs.Held.{contents};
 
-use crate::slot::Message;
 use crate::table::SlotStore;
 
 impl SlotStore {
@@ -20,11 +19,11 @@ impl SlotStore {
         self.slots.iter().position(|slot| slot.is_none())
     }
 
-    // The message under a number.
-    pub(crate) fn message(&self, number: u32) -> Option<&Message>
-        ensures { MatchOption result (contents self.now number ≡ None) (λ m. contents self.now number ≡ Some (bytes_of m.now)) }
+    // The bytes of a number's message.
+    pub(crate) fn message(&self, number: u32) -> Option<&[u8]>
+        ensures { option_map (λ b. b.now) result ≡ contents self.now number }
     {
         let i = self.find(number)?;
-        self.slots[i].as_ref()
+        self.slots[i].as_ref().map(|message| message.bytes())
     }
 }

@@ -3,6 +3,7 @@ ghost use Rattle.std.specs.Prelude.{◌≡◌, ◌≤◌, length as long};
 
 use store::MAX_LENGTH;
 
+// Not a `FixedList` of bytes (crate `fixed`): that is filled item by item, and a message comes and goes as a whole.
 #[derive(Clone, Copy)]
 pub(crate) struct Message {
     pub(crate) number: u32,

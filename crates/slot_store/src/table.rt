@@ -10,7 +10,8 @@ pub(crate) const SLOTS: usize = 64;
 #[derive(Drop)]
 pub struct SlotStore {
     pub(crate) slots: [Option<Message>; SLOTS],
-    // Kept beside the slots, so that `used` answers without looking at them.
+    // Kept beside the slots: to count them, each `used` would look at all 64, as `clear` does, which takes 186
+    // instructions where all are free.
     pub(crate) used: u32,
     ghost whole: { length slots ≡ 64 },
     ghost once: { distinct (messages slots) ≡ true },
