@@ -22,8 +22,9 @@ impl PackedStore {
         usize::from(self.memory[at + 4])
     }
 
-    // Where the header of a number's message begins. A loop, since each step is as long as the message there: an
-    // iterator would be one more struct, with this body in its `next`.
+    // Where the header of a number's message begins. A loop, since each step is as long as the message there. Tried:
+    // `iter::successors` with `take_while` and `find`. It reads one header more, behind the last message, and that
+    // its steps may be taken (each place is a message's, as the loop's invariant says) stayed unproved.
     pub(crate) fn find(&self, number: u32) -> Option<usize>
         ensures { MatchOption result (contents self.now number ≡ None) (Found self.now.memory self.now.used number) }
     {
