@@ -30,7 +30,7 @@ impl<T: Copy, const N: usize> FixedList<T, N> {
         &self.slots[..self.len]
     }
 
-    // The item at a place.
+    // The item at a place. Only `Roster::ready_at` calls it by now: it is public, so it stays.
     pub fn at(&self, i: usize) -> T
         requires { i < length (items self.now) }
         ensures { (d : T) → result ≡ slice_index_or (items self.now) i d }

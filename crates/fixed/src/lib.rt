@@ -1,14 +1,17 @@
 // A list of at most N items in a fixed table, with no heap: the ready list, queues and receivers are made of it.
-// Also a write to a table where it has the place.
+// Also (places.rt) a write to a table where it has the place.
 #![tactic(auto)]
 
-ghost use Rattle.std.specs.Prelude.{◌≡◌, ℕ, ◌≤◌, length, slice_set};
+ghost use Rattle.std.specs.Prelude.{◌≡◌, ℕ, ◌≤◌, length};
 
 mod edits;
+mod places;
 
+pub use places::write;
 use std::alloc::AllocError;
 
-// Not the kit's `ArrayVec`, which isn't `Copy` and needs `T: Default` for the places that are not in use.
+// Not the kit's `ArrayVec`: this type is public and promises `Copy`, which that isn't, and that needs `T: Default` for the places
+// that are not in use.
 // No `impl Model`: for a `Copy` type it needs an inverse of the view, and the items forget what stands in those places.
 #[derive(Copy)]
 pub struct FixedList<T, const N: usize> {
@@ -26,15 +29,5 @@ impl<T: Copy, const N: usize> Clone for FixedList<T, N> {
 
     fn clone(&self) -> Result<FixedList<T, N>, AllocError> {
         Ok(*self)
-    }
-}
-
-// A write at a place of a table, where it has that place.
-// By index: the contract of a slice's `get_mut` doesn't tell what a write through it leaves.
-pub fn write<T: Copy>(table: &mut [T], place: usize, x: T)
-    ensures { table.new ≡ slice_set table.old place x }
-{
-    if place < table.len() {
-        table[place] = x;
     }
 }

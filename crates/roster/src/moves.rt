@@ -1,5 +1,7 @@
 // What changes a roster: tasks start, stop and end, and numbers enter and leave the ready list.
-ghost use Rattle.std.specs.Prelude.{◌≡◌, ◌-◌, ◌<◌, ◌≤◌, true, false, [], ◌∷◌, length, is_some, Some, None, slice_set};
+ghost use Rattle.std.specs.Prelude.{◌≡◌, ◌-◌, ◌<◌, ◌≤◌, true, false, [], ◌∷◌, length, is_some, Some, None, IfSome, MatchOption, slice_index_or, slice_set};
+ghost use Rattle.std.specs.Fn.{FnOnceReturnsAtMut, FnOnceTakesAtMut};
+ghost use Rattle.art.specs.declared.task.Task.{Task};
 ghost use Rattle.std.specs.List.{insert};
 ghost use Rattle.art.specs.State.{changed, first, idle_task};
 ghost use Rattle.art.specs.Verbs.{doing, removed, settled, with_deadline};
@@ -8,26 +10,27 @@ ghost use Rattle.roster.specs.View.{HasRoom, ready_in, tasks_in};
 
 use crate::place::idle_task;
 use crate::{PLACES, Roster};
-use art::{Activity, Task, TaskNumber, Urgency};
+use art::{Activity, IDLE_TASK, Task, TaskNumber};
 use fixed::{FixedList, write};
 
 impl Roster {
-    // Task 0 alone, which runs.
+    // The idle task alone, which runs.
     pub fn idle() -> Roster
         ensures tasks { tasks_in result ≡ changed (λ _. None) 0 (Some idle_task) }
         ensures list { ready_in result ≡ 0 ∷ [] }
     {
         let mut roster = Roster {
             tasks: [None; PLACES],
-            ready: FixedList::empty(0),
+            ready: FixedList::empty(IDLE_TASK),
         };
-        roster.start(0, idle_task());
-        roster.insert(0, 0);
+        roster.start(IDLE_TASK, idle_task());
+        roster.insert(0, IDLE_TASK);
         roster
     }
 
     // A task that is not ready becomes the ready task x, and has yet to enter the list.
-    // It asks for a number that has a place, since x is there afterwards.
+    // It asks for a number that has a place, since x is there afterwards. A type of bounded numbers would ask the same where one
+    // is made, and callers have a `TaskNumber`.
     #[tactic(auto, using(crate::proofs::Counting::count_more))]
     pub fn start(&mut self, t: TaskNumber, x: Task)
         requires number { t < 64 }
@@ -40,7 +43,8 @@ impl Roster {
         self.replace(t, Some(x));
     }
 
-    // A number enters the list at a place; those from there on move up.
+    // A number enters the list at a place; those from there on move up. `HasRoom` is defined once, and asked only here, where a
+    // number enters: `start` and `defer` promise it.
     #[tactic(auto, using(crate::proofs::Counting::count_le))]
     pub fn insert(&mut self, i: usize, t: TaskNumber)
         requires place { i ≤ length (ready_in self.old) }
@@ -58,9 +62,7 @@ impl Roster {
         ensures list { ready_in self.new ≡ removed (first (ready_in self.old)) (ready_in self.old) }
     {
         let t = self.leave();
-        if let Some(x) = self.task(t) {
-            self.replace(t, Some(Task { activity: a, ..x }));
-        }
+        self.edit(t, |x| x.activity = a);
     }
 
     // The running task ends.
@@ -80,9 +82,7 @@ impl Roster {
         ensures list { ready_in self.new ≡ ready_in self.old }
     {
         let t = self.running();
-        if let Some(x) = self.task(t) {
-            self.replace(t, Some(Task { due: None, ..x }));
-        }
+        self.edit(t, |x| x.due = None);
     }
 
     // The running task leaves the list with another deadline, and has yet to enter it again.
@@ -95,13 +95,7 @@ impl Roster {
         ensures room { HasRoom self.new }
     {
         let t = self.leave();
-        if let Some(x) = self.task(t) {
-            let urgency = Urgency {
-                deadline,
-                ..x.urgency
-            };
-            self.replace(t, Some(Task { urgency, ..x }));
-        }
+        self.edit(t, |x| x.urgency.deadline = deadline);
     }
 
     // The running task leaves the list, if one stands there; its number.
@@ -116,7 +110,23 @@ impl Roster {
         t
     }
 
-    // Whatever becomes of a task, where the list stays covered.
+    // A task changes, if it lives, where the list stays covered.
+    fn edit<F: FnOnce(&mut Task)>(&mut self, t: TaskNumber, change: F)
+        requires callable { IfSome (slice_index_or self.old.tasks t None) (λ x. FnOnceTakesAtMut F.FnOnce change x) }
+        requires covered { IfSome (slice_index_or self.old.tasks t None) (λ x. (y : Task) → FnOnceReturnsAtMut F.FnOnce change x tt y → length (ready_in self.old) ≤ ready_count (slice_set self.old.tasks t (Some y))) }
+        ensures table { MatchOption (slice_index_or self.old.tasks t None) (self.new.tasks ≡ self.old.tasks) (λ x. (y : Task) × FnOnceReturnsAtMut F.FnOnce change x tt y × (self.new.tasks ≡ slice_set self.old.tasks t (Some y))) }
+        ensures list { ready_in self.new ≡ ready_in self.old }
+    {
+        let place = usize::from(t);
+        if place < PLACES {
+            if let Some(x) = &mut self.tasks[place] {
+                change(x);
+            }
+        }
+    }
+
+    // Whatever becomes of a task, where the list stays covered. One line over `write`, as in the table of mailboxes: each table
+    // has its own meaning to tell of.
     fn replace(&mut self, t: TaskNumber, x: Option<Task>)
         requires number { is_some x ≡ true → t < 64 }
         requires covered { length (ready_in self.old) ≤ ready_count (slice_set self.old.tasks t x) }

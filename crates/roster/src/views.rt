@@ -4,7 +4,7 @@ ghost use Rattle.art.specs.State.{first};
 ghost use Rattle.roster.specs.View.{ready_in, tasks_in};
 
 use crate::Roster;
-use art::{Task, TaskNumber};
+use art::{IDLE_TASK, Task, TaskNumber};
 
 impl Roster {
     // The task of a number, if one lives.
@@ -15,11 +15,11 @@ impl Roster {
         *self.tasks.get(usize::from(t))?
     }
 
-    // The running task: the first of the ready list, or else the number of the idle task, as the rules have it.
+    // The running task: the first of the ready list, or else the idle task, as the rules have it.
     pub fn running(&self) -> TaskNumber
         ensures { result ≡ first (ready_in self.now) }
     {
-        self.ready().first().copied().unwrap_or(0)
+        self.ready().first().copied().unwrap_or(IDLE_TASK)
     }
 
     // The numbers of the ready list, the running task first.
@@ -36,7 +36,7 @@ impl Roster {
         self.ready.len()
     }
 
-    // The number at a place of the ready list.
+    // The number at a place of the ready list. No crate here calls it any more: it is public, so it stays.
     pub fn ready_at(&self, i: usize) -> TaskNumber
         requires { i < length (ready_in self.now) }
         ensures { result ≡ slice_index (ready_in self.now) i }
