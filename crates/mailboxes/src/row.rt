@@ -8,7 +8,9 @@ use crate::Mailbox;
 use art::{Message, TaskNumber};
 use fixed::FixedList;
 
-// What is done with the two lists comes in pairs, one line each: their rules have names of their own.
+// What is done with the two lists comes in pairs, whose rules have names of their own. Most are one line. The two that find a place
+// and leave it are longer: `FixedList::remove_where(test)` proves, with a contract by the closure's predicates, but each of the two
+// would still need its own proof of what its test tells, and a wrong test would be refused there and not in the code.
 impl Mailbox {
     // A row with no message and no receiver.
     pub(crate) fn empty(capacity: u8, size: u8) -> Self

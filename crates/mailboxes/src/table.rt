@@ -33,7 +33,7 @@ impl Mailboxes {
         self.find(m)?.oldest_receiver()
     }
 
-    // A number has another row, or none.
+    // A number has another row, or none. One line over `write`, as in the roster: each table has its own meaning to tell of.
     fn replace(&mut self, m: MailboxNumber, row: Option<Mailbox>)
         requires { is_some row ≡ true → m < 32 }
         ensures { mailboxes_in self.new ≡ changed (mailboxes_in self.old) m (mailbox_of row) }
@@ -41,7 +41,8 @@ impl Mailboxes {
         write(&mut self.rows, usize::from(m), row);
     }
 
-    // A mailbox opens, with no message and no receiver. It asks for a number that has a row, since it is there afterwards.
+    // A mailbox opens, with no message and no receiver. It asks for a number that has a row, since it is there afterwards: a type of
+    // bounded numbers would ask the same where one is made. A struct for capacity and size would ask callers for a narrower type.
     pub fn open(&mut self, m: MailboxNumber, capacity: u8, size: u8)
         requires number { m < 32 }
         requires bounded { capacity ≤ 16 }
@@ -57,7 +58,7 @@ impl Mailboxes {
         self.replace(m, None);
     }
 
-    // A mailbox changes, where it is in use.
+    // A mailbox changes, where it is in use. The six one-line functions over it, below, have the names of the rules' verbs.
     fn edit<F: FnOnce(&mut Mailbox)>(&mut self, m: MailboxNumber, change: F)
         requires { IfSome (slice_index_or self.old.rows m None) (λ row. FnOnceTakesAtMut F.FnOnce change row) }
         ensures { MatchOption (slice_index_or self.old.rows m None) (self.new.rows ≡ self.old.rows) (λ row. (next : _) × FnOnceReturnsAtMut F.FnOnce change row tt next × (self.new.rows ≡ slice_set self.old.rows m (Some next))) }
@@ -70,7 +71,8 @@ impl Mailboxes {
         }
     }
 
-    // A message comes to the end of a mailbox's queue.
+    // A message comes to the end of a mailbox's queue. The room that this asks for, and that `join_receivers` does, is one
+    // definition each: a type for a mailbox with room would have to borrow the table.
     pub fn queue(&mut self, m: MailboxNumber, x: Message)
         requires room { room_for_message (mailboxes_in self.old m) }
         ensures { mailboxes_in self.new ≡ edited_at (queue x) (mailboxes_in self.old) m }
