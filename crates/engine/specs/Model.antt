@@ -47,7 +47,7 @@ posted kind s m bytes sender x =
     unless s [] (store_rows kind s bytes x)
     (arrive kind (accept kind (displace kind s m x) bytes) m s.next sender (number_in x) (oldest (mailbox_at s m).receivers))
 
--- the same where the next message has a number
+-- NUMBERS_SPENT first, then the same
 abbrev pub numbered : Kind → State → ℕ → List ℕ → Option ℕ → Option Message → Effect
 numbered kind s m bytes sender x = unless s [] (numbers_spent s ∷ []) (posted kind s m bytes sender x)
 

@@ -4,7 +4,7 @@ ghost use Rattle.art.specs.Rules.{bringing, naming, plain};
 
 use art::{Answer, Status};
 
-// A status alone.
+// A status alone. No From<Status>: that would hide at a call that nothing else is answered.
 pub fn plainly(status: Status) -> Answer
     ensures { result ≡ plain status }
 {

@@ -2,14 +2,15 @@
 // Its functions may ask something of their callers; the kernel's calls, above it, ask nothing.
 #![tactic(auto)]
 
-mod callers;
 mod due;
 mod forms;
+mod gates;
 mod leaving;
 mod queries;
 mod ready;
 mod tables;
 
 pub use forms::{about, brought, plainly, sent};
+pub use gates::checked_mailbox;
 pub use leaving::release;
 pub use tables::{Engine, Tables};

@@ -39,6 +39,7 @@ impl<S: Store, O: Order> Engine<S, O> {
         ensures { outcome result ≡ tried (discard_rows (view S.Store self.now).held message) (units_in S.Store.cost ((view S.Store self.now).held message)) }
     {
         let length = self.store.copy(message, &mut [0; MAX_LENGTH])?;
+        // A cast that is proved to lose nothing, here and below: no From leads from usize to u8.
         Ok(S::cost(length as u8))
     }
 
@@ -65,6 +66,7 @@ impl<S: Store, O: Order> Engine<S, O> {
     }
 
     // Whether the next message could be put once a displaced one, which has to be held, has gone.
+    // It takes no number: the rows speak of the next one, and a number beside them would need a clause that it is that one.
     pub fn could_displace(&self, displaced: Message, bytes: &[u8]) -> Result<(), StoreFault>
         requires { (view S.Store self.now).next ≤ top }
         ensures { outcome result ≡ tried (store_rows (kind_of S.Store O.Order) (view S.Store self.now) bytes.now (Some displaced)) tt }

@@ -5,11 +5,12 @@ ghost use Rattle.art.specs.State.{running, with_task};
 ghost use Rattle.art.specs.Verbs.{block, due_of, enter, entered, urgent, wake, with_deadline, removed, settle};
 ghost use Rattle.art.specs.Rules.{after_set_deadline};
 ghost use Rattle.roster.specs.Places.{is_ready, stands_ready};
+ghost use Rattle.roster.specs.View.{HasRoom};
 ghost use Rattle.engine.specs.Model.{kind_of, view};
 
 use crate::due::due_after;
 use crate::tables::Engine;
-use art::{Activity, Event, Order, Task, TaskNumber};
+use art::{Activity, Event, IDLE_TASK, Order, Task, TaskNumber};
 use store::Store;
 
 impl<S: Store, O: Order> Engine<S, O> {
@@ -17,7 +18,7 @@ impl<S: Store, O: Order> Engine<S, O> {
     fn passes(&self, t: TaskNumber, u: TaskNumber) -> bool
         ensures { result ≡ (u == 0 || urgent (kind_of S.Store O.Order) ((view S.Store self.now).tasks t) ((view S.Store self.now).tasks u)) }
     {
-        if u == 0 {
+        if u == IDLE_TASK {
             return true;
         }
         let roster = &self.tables.roster;
@@ -47,6 +48,15 @@ impl<S: Store, O: Order> Engine<S, O> {
             .unwrap_or(self.tables.roster.ready_len())
     }
 
+    // A ready task enters the ready list, which has room for it.
+    fn enter(&mut self, t: TaskNumber)
+        requires { HasRoom self.old.tables.roster }
+        ensures { view S.Store self.new ≡ enter (kind_of S.Store O.Order) (view S.Store self.old) t }
+    {
+        let at = self.place(t);
+        self.tables.roster.insert(at, t);
+    }
+
     // A task that is not ready becomes the ready task x, and enters the ready list. It asks for a number that has a place, since
     // x is there afterwards.
     pub fn admit(&mut self, t: TaskNumber, x: Task)
@@ -56,8 +66,7 @@ impl<S: Store, O: Order> Engine<S, O> {
         ensures { view S.Store self.new ≡ enter (kind_of S.Store O.Order) (with_task (view S.Store self.old) t (Some x)) t }
     {
         self.tables.roster.start(t, x);
-        let at = self.place(t);
-        self.tables.roster.insert(at, t);
+        self.enter(t);
     }
 
     // A task that the event concerns becomes ready, with its answer due.
@@ -93,7 +102,6 @@ impl<S: Store, O: Order> Engine<S, O> {
     {
         let t = self.tables.roster.running();
         self.tables.roster.defer(deadline);
-        let at = self.place(t);
-        self.tables.roster.insert(at, t);
+        self.enter(t);
     }
 }

@@ -1,4 +1,4 @@
-// What most calls test first: who calls, which mailbox is named, and whether a number is left for a message.
+// The gates that most calls go through first: who calls, which mailbox is named, whether a number is left for a message.
 ghost use Rattle.std.specs.Prelude.{◌≡◌, ◌<◌, true, [], ◌∷◌, is_ok, Some, Ok, Err, MatchResult};
 ghost use Rattle.store.specs.Refusal.{tried};
 ghost use Rattle.refusals.specs.Refusals.{outcome, told};
@@ -8,9 +8,19 @@ ghost use Rattle.mailboxes.specs.Meaning.{meaning};
 ghost use Rattle.engine.specs.Model.{view};
 
 use crate::tables::Engine;
-use art::{LAST_MAILBOX, MailboxNumber, Order, Refusal, TaskNumber};
+use art::{IDLE_TASK, LAST_MAILBOX, MailboxNumber, Order, Refusal, TaskNumber};
 use mailboxes::Mailbox;
 use store::Store;
+
+// A number that a mailbox can have.
+pub fn checked_mailbox(number: MailboxNumber) -> Result<MailboxNumber, Refusal>
+    ensures { outcome result ≡ tried (bad_mailbox number ∷ []) number }
+{
+    if number > LAST_MAILBOX {
+        return Err(Refusal::BadNumber { given: number });
+    }
+    Ok(number)
+}
 
 impl<S: Store, O: Order> Engine<S, O> {
     // The running task, unless an answer is due to it.
@@ -29,7 +39,7 @@ impl<S: Store, O: Order> Engine<S, O> {
         ensures { outcome result ≡ tried (answer_due (view S.Store self.now) ∷ idle_calls (view S.Store self.now) ∷ []) (running (view S.Store self.now)) }
     {
         let task = self.caller()?;
-        if task == 0 {
+        if task == IDLE_TASK {
             return Err(Refusal::IdleTask { task });
         }
         Ok(task)
@@ -40,9 +50,7 @@ impl<S: Store, O: Order> Engine<S, O> {
         ensures value { MatchResult result (λ row. (view S.Store self.now).mailboxes mailbox ≡ Some (meaning row.now)) (λ refusal. Err (told refusal) ≡ tried (bad_mailbox mailbox ∷ no_mailbox (view S.Store self.now) mailbox ∷ []) mailbox) }
         ensures below { is_ok result ≡ true → mailbox < 32 }
     {
-        if mailbox > LAST_MAILBOX {
-            return Err(Refusal::BadNumber { given: mailbox });
-        }
+        checked_mailbox(mailbox)?;
         self.tables
             .mailboxes
             .find(mailbox)
