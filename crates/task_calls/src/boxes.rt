@@ -5,8 +5,8 @@ ghost use Rattle.art.specs.Record.{CreateMailbox, RemoveMailbox};
 ghost use Rattle.art.specs.Rules.{Answered};
 ghost use Rattle.engine.specs.Model.{Does};
 
-use art::{Answer, LAST_MAILBOX, MOST_ENTRIES, MailboxNumber, Order, Refusal, Status};
-use engine::{Engine, plainly};
+use art::{Answer, MOST_ENTRIES, MailboxNumber, Order, Refusal, Status};
+use engine::{Engine, checked_mailbox, plainly};
 use store::{MAX_LENGTH, Store};
 
 // Makes an empty mailbox.
@@ -19,9 +19,7 @@ pub fn create_mailbox<S: Store, O: Order>(
     ensures { Does S.Store O.Order (CreateMailbox number capacity size) engine.old (Answered (outcome result)) [] engine.new }
 {
     engine.caller()?;
-    if number > LAST_MAILBOX {
-        return Err(Refusal::BadNumber { given: number });
-    }
+    checked_mailbox(number)?;
     if capacity == 0 || capacity > MOST_ENTRIES || size == 0 || usize::from(size) > MAX_LENGTH {
         return Err(Refusal::BadShape { given: number });
     }

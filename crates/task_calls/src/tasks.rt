@@ -6,7 +6,8 @@ ghost use Rattle.art.specs.Rules.{Answered};
 ghost use Rattle.engine.specs.Model.{Does};
 
 use art::{
-    Activity, Answer, LAST_LEVEL, LAST_TASK, Order, Refusal, Status, Task, TaskNumber, Urgency,
+    Activity, Answer, IDLE_TASK, LAST_LEVEL, LAST_TASK, Order, Refusal, Status, Task, TaskNumber,
+    Urgency,
 };
 use engine::{Engine, plainly};
 use store::Store;
@@ -21,7 +22,7 @@ pub fn create_task<S: Store, O: Order>(
     ensures { Does S.Store O.Order (CreateTask number deadline level) engine.old (Answered (outcome result)) [] engine.new }
 {
     engine.caller()?;
-    if number == 0 || number > LAST_TASK {
+    if number == IDLE_TASK || number > LAST_TASK {
         return Err(Refusal::BadNumber { given: number });
     }
     if level > LAST_LEVEL {
