@@ -1,4 +1,5 @@
 // The two receives. Each tests its buffer itself: a function for that one test, with its contract, would be longer than both.
+// Engine, mailbox and buffer are a call's own arguments, passed on as they came; functions, as the sends are.
 ghost use Rattle.refusals.specs.Refusals.{outcome};
 ghost use Rattle.art.specs.Record.{ReceiveNoWait, ReceiveWait};
 ghost use Rattle.art.specs.Rules.{Answered};

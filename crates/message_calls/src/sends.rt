@@ -1,4 +1,5 @@
-// The two sends.
+// The two sends. Engine, mailbox and bytes are a call's own arguments, passed on as they came; the calls are functions, since a
+// method stands in its type's own crate.
 ghost use Rattle.std.specs.Prelude.{◌≡◌, [], ◌∷◌, cond, Some, None, Ok, Err, MatchResult};
 ghost use Rattle.store.specs.Refusal.{tried};
 ghost use Rattle.refusals.specs.Refusals.{outcome, told};
@@ -14,7 +15,7 @@ use mailboxes::Mailbox;
 use message_moves::{post, post_displacing};
 use store::Store;
 
-// The mailbox of a number, where messages of this length come in this mode.
+// The mailbox of a number, where messages of this length come in this mode, which is a bool as in the rules.
 fn open_to<'a, S: Store, O: Order>(
     engine: &'a Engine<S, O>,
     mailbox: MailboxNumber,
@@ -33,7 +34,8 @@ fn open_to<'a, S: Store, O: Order>(
     Ok(row)
 }
 
-// The message comes with its sender, which waits with it where no receiver does.
+// The message comes with its sender, which waits with it where no receiver does. A step of its own: the check proves it alone,
+// and refuses here a call without the sender; the last step of send_wait needs an answer, and search did not find it.
 fn post_from<S: Store, O: Order>(
     engine: &mut Engine<S, O>,
     mailbox: MailboxNumber,
