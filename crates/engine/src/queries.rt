@@ -9,7 +9,7 @@ ghost use Rattle.engine.specs.Model.{kind_of, view};
 
 use crate::tables::Engine;
 use art::{Due, Message, Order, TaskNumber};
-use store::{MAX_LENGTH, Store, StoreFault, Units};
+use store::{MAX_LENGTH, Store, StoreFault, Units, check_length};
 
 impl<S: Store, O: Order> Engine<S, O> {
     pub fn running(&self) -> TaskNumber
@@ -47,9 +47,7 @@ impl<S: Store, O: Order> Engine<S, O> {
     fn would_put(&self, message: u32, bytes: &[u8], used: u32) -> Result<(), StoreFault>
         ensures { outcome result ≡ put_answer S.Store.capacity S.Store.cost (view S.Store self.now).held used message bytes.now }
     {
-        if bytes.is_empty() || bytes.len() > MAX_LENGTH {
-            return Err(StoreFault::BadLength { message });
-        }
+        check_length(message, bytes)?;
         // A store is not asked whether it holds a number, so a copy that succeeds tells it.
         if self.units_of(message).is_ok() {
             return Err(StoreFault::Held { message });
