@@ -2,7 +2,6 @@
 // Arguments: the kind of store, what each turn does, the tasks, the turns.
 #![tactic(auto)]
 
-use anyhow::anyhow;
 use art::{LAST_TASK, LevelOrder};
 use kernel::{Kernel, init_kernel};
 use packed_store::PackedStore;
@@ -10,7 +9,7 @@ use slot_store::SlotStore;
 use std::env;
 use std::str::FromStr;
 use store::{MAX_LENGTH, Store};
-use turns::{Arguments, NoSuchTurn, repeat};
+use turns::{Arguments, NoSuchTurn, StoreKind, repeat};
 
 #[derive(Clone, Copy)]
 enum Turn {
@@ -38,6 +37,7 @@ impl FromStr for Turn {
 // A kernel with one mailbox and some tasks, by rising level.
 fn prepared<S: Store>(store: S, tasks: u8) -> Kernel<S, LevelOrder> {
     let mut start_up = init_kernel(store, LevelOrder, 0);
+    // A cast, since there is no From; MAX_LENGTH is 128.
     let _ = start_up.create_mailbox(0, 1, MAX_LENGTH as u8);
     for number in 1..=tasks.min(LAST_TASK) {
         let _ = start_up.create_task(number, u32::MAX, number / 2);
@@ -80,10 +80,9 @@ fn run(rt: &HostRuntime) -> anyhow::Result<()> {
         beside,
         turns,
     } = Arguments::<Turn, u8>::read(env::args(rt)?, "no number of tasks")?;
-    let accepted = match kind.as_str() {
-        "slot" => measure(SlotStore::new(), turn, beside, turns),
-        "packed" => measure(PackedStore::new(), turn, beside, turns),
-        _ => return Err(anyhow!("no such store")),
+    let accepted = match kind {
+        StoreKind::Slot => measure(SlotStore::new(), turn, beside, turns),
+        StoreKind::Packed => measure(PackedStore::new(), turn, beside, turns),
     };
     println!(rt; "accepted {accepted}")?;
     Ok(())

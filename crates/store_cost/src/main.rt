@@ -2,13 +2,12 @@
 // Arguments: the kind of store, what each turn does, the messages held beside, the turns.
 #![tactic(auto)]
 
-use anyhow::anyhow;
 use packed_store::PackedStore;
 use slot_store::SlotStore;
 use std::env;
 use std::str::FromStr;
 use store::{MAX_LENGTH, Store, StoreFault};
-use turns::{Arguments, NoSuchTurn, repeat};
+use turns::{Arguments, NoSuchTurn, StoreKind, repeat};
 
 #[derive(Clone, Copy)]
 enum Turn {
@@ -69,10 +68,9 @@ fn run(rt: &HostRuntime) -> anyhow::Result<()> {
         beside,
         turns,
     } = Arguments::<Turn, u32>::read(env::args(rt)?, "no number of messages")?;
-    let accepted = match kind.as_str() {
-        "slot" => measure(SlotStore::new(), turn, beside, turns),
-        "packed" => measure(PackedStore::new(), turn, beside, turns),
-        _ => return Err(anyhow!("no such store")),
+    let accepted = match kind {
+        StoreKind::Slot => measure(SlotStore::new(), turn, beside, turns),
+        StoreKind::Packed => measure(PackedStore::new(), turn, beside, turns),
     };
     println!(rt; "accepted {accepted}")?;
     Ok(())

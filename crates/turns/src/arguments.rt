@@ -1,7 +1,7 @@
 // The command line of a program that counts: the kind of store, what each turn does, how much stands by, the turns.
 ghost use Rattle.std.specs.Prelude.{IfOk, IfErr, Some, codes};
 ghost use Rattle.std.specs.Vec.Iter.{into_iter_items};
-ghost use Rattle.turns.specs.Line.{ReadsNext, ReadsNone, Says, SaysTooLittle};
+ghost use Rattle.turns.specs.Line.{ReadsKind, ReadsNext, ReadsNone, Says, SaysTooLittle};
 
 use anyhow::Context;
 use std::env::Args;
@@ -11,8 +11,7 @@ use std::str::FromStr;
 
 #[derive(Drop)]
 pub struct Arguments<T, N> {
-    // The kind of store.
-    pub kind: String,
+    pub kind: StoreKind,
     // What each turn does.
     pub turn: T,
     // How many messages or tasks stand by.
@@ -20,9 +19,43 @@ pub struct Arguments<T, N> {
     pub turns: u32,
 }
 
+#[derive(Clone, Copy, Debug, PartialEq, Eq)]
+pub enum StoreKind {
+    Slot,
+    Packed,
+}
+
+// A word that names no kind of store.
+#[derive(Clone, Copy, Debug, PartialEq, Eq)]
+pub struct NoSuchStore;
+
 // A word that names no turn.
 #[derive(Clone, Copy, Debug, PartialEq, Eq)]
 pub struct NoSuchTurn;
+
+impl FromStr for StoreKind {
+    type Err = NoSuchStore;
+
+    ghost from_str_gives = { ReadsKind };
+
+    fn from_str(word: &str) -> Result<StoreKind, NoSuchStore> {
+        match word {
+            "slot" => Ok(StoreKind::Slot),
+            "packed" => Ok(StoreKind::Packed),
+            _ => Err(NoSuchStore),
+        }
+    }
+}
+
+impl fmt::Display for NoSuchStore {
+    ghost output = { λ _. Some (codes "no such store") };
+
+    fn fmt<W: fmt::Write>(&self, f: &mut fmt::Formatter<W>) -> fmt::Result {
+        write!(f, "no such store")
+    }
+}
+
+impl Error for NoSuchStore {}
 
 impl fmt::Display for NoSuchTurn {
     ghost output = { λ _. Some (codes "no such turn") };
@@ -56,10 +89,11 @@ where
     {
         let kind = words.nth(1).context("no kind of store")?;
         Ok(Arguments {
-            kind,
             turn: next_value(&mut words, "no turn")?,
             beside: next_value(&mut words, no_beside)?,
             turns: next_value(&mut words, "no number of turns")?,
+            // Read last, so that a word that names no store is told only where all else is well.
+            kind: kind.as_str().parse()?,
         })
     }
 }

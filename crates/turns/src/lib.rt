@@ -4,5 +4,5 @@
 mod arguments;
 mod repetition;
 
-pub use arguments::{Arguments, NoSuchTurn};
+pub use arguments::{Arguments, NoSuchStore, NoSuchTurn, StoreKind};
 pub use repetition::repeat;
