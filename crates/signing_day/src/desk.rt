@@ -1,5 +1,5 @@
 // Who works in the unit, and how far each has come.
-use crate::book::{Paper, SUBJECTS};
+use crate::paper::{Paper, SUBJECTS};
 use art::{MailboxNumber, TaskNumber};
 use std::alloc::{AllocError, Global};
 
@@ -26,7 +26,7 @@ pub enum Role {
 pub enum Step {
     // Sets the deadline of the next wait.
     Prepare,
-    // Files an order, receives, or sleeps.
+    // Files an order, or receives.
     Call,
     // Collects the answer due.
     Collect,

@@ -7,13 +7,15 @@
 mod book;
 mod desk;
 mod office;
+mod paper;
 
 use art::LevelOrder;
-use book::{Book, Paper, Subject};
+use book::Book;
 use desk::{Desk, INSPECTED, ORDERS, SIGNED, staff};
 use kernel::{StartUp, init_kernel};
 use office::Office;
 use packed_store::PackedStore;
+use paper::{Paper, Subject};
 use std::io;
 
 // A tick falls behind each call that stands under a `t`.
@@ -32,6 +34,7 @@ fn open_unit(
         (SIGNED, 8, Paper::LENGTH),
         (INSPECTED, 8, Paper::LENGTH),
     ] {
+        // A cast, since there is no From; both lengths are below 256.
         if let Err(refusal) = unit.create_mailbox(mailbox, capacity, size as u8) {
             println!(rt; "create_mailbox {mailbox}: {refusal}")?;
         }

@@ -1,14 +1,13 @@
 // The office: one call of the kernel by the running task, by how far its desk has come and its role.
-use crate::book::{Book, Paper, Subject};
+use crate::book::Book;
 use crate::desk::{Desk, INSPECTED, ORDERS, Role, SIGNED, Step};
+use crate::paper::{Paper, Subject};
 use art::{Answer, LevelOrder, MailboxNumber, Refusal, Status};
 use kernel::Kernel;
 use packed_store::PackedStore;
 use std::{fmt, io};
 
 pub type Unit = Kernel<PackedStore, LevelOrder>;
-
-type Reply = Result<Answer, Refusal>;
 
 // The runtime to print by, the kernel and the book, which every desk works with.
 #[derive(Drop)]
@@ -20,7 +19,7 @@ pub struct Office<'a> {
 
 // A reply as it is printed: the answer, or the refusal.
 #[derive(Clone, Copy)]
-struct Said(Reply);
+struct Said(Result<Answer, Refusal>);
 
 impl fmt::Display for Said {
     fn fmt<W: fmt::Write>(&self, f: &mut fmt::Formatter<W>) -> fmt::Result {
@@ -31,8 +30,21 @@ impl fmt::Display for Said {
     }
 }
 
-fn status_of(reply: Reply) -> Option<Status> {
-    reply.ok().map(|answer| answer.status)
+// A call and its argument, as they are printed.
+#[derive(Clone, Copy)]
+struct With<A>(&'static str, A);
+
+impl<A: fmt::Display> fmt::Display for With<A> {
+    fn fmt<W: fmt::Write>(&self, f: &mut fmt::Formatter<W>) -> fmt::Result {
+        let With(call, argument) = self;
+        write!(f, "{call} {argument}")
+    }
+}
+
+impl Said {
+    fn status(self) -> Option<Status> {
+        self.0.ok().map(|answer| answer.status)
+    }
 }
 
 impl Office<'_> {
@@ -46,15 +58,15 @@ impl Office<'_> {
     // One call by a desk whose task runs.
     pub(crate) fn work(&mut self, desk: &mut Desk) -> anyhow::Result<()> {
         match (desk.step, desk.role) {
-            (Step::Prepare, Role::Intake([])) => self.terminate(desk)?,
+            (_, Role::Intake([])) => self.terminate(desk)?,
             (Step::Prepare, Role::Clock) | (Step::Rest, _) => self.rest(desk)?,
             (Step::Prepare, _) => self.prepare(desk)?,
             (Step::Wake, _) => self.wake(desk)?,
-            (Step::Call, Role::Intake(orders)) => self.file(desk, orders)?,
+            (Step::Call, Role::Intake([order, later @ ..])) => self.file(desk, order, later)?,
             (Step::Call, Role::Signer) => self.receive(desk, ORDERS)?,
             (Step::Call, Role::Inspector) => self.receive(desk, SIGNED)?,
             (Step::Call, _) => self.receive(desk, INSPECTED)?,
-            (Step::Collect, Role::Intake(orders)) => self.hear(desk, orders)?,
+            (Step::Collect, Role::Intake([_, later @ ..])) => self.hear(desk, later)?,
             (Step::Collect, _) => self.collect(desk)?,
             (Step::Pass, Role::Signer) => self.certify(desk)?,
             (Step::Pass, Role::Inspector) => self.forward(desk, INSPECTED)?,
@@ -64,16 +76,15 @@ impl Office<'_> {
     }
 
     // Prints a call and its reply.
-    fn report(&self, desk: &Desk, call: &str, reply: Reply) -> io::Result<()> {
+    fn report<C: fmt::Display + Drop>(&self, desk: &Desk, call: C, said: Said) -> io::Result<()> {
         let name = desk.name;
-        let said = Said(reply);
         println!(self.rt; "{name}: {call} -> {said}")
     }
 
     // An intake with no order left ends.
     fn terminate(&mut self, desk: &Desk) -> io::Result<()> {
-        let reply = self.unit.terminate();
-        self.report(desk, "terminate", reply)
+        let said = Said(self.unit.terminate());
+        self.report(desk, "terminate", said)
     }
 
     // Sets the deadline of the next wait.
@@ -81,20 +92,20 @@ impl Office<'_> {
         let deadline = self.unit.ticks().saturating_add(desk.patience);
         desk.deadline = deadline;
         desk.step = Step::Call;
-        let reply = self.unit.set_deadline(deadline);
-        let name = desk.name;
-        let said = Said(reply);
-        println!(self.rt; "{name}: set_deadline {deadline} -> {said}")
+        let said = Said(self.unit.set_deadline(deadline));
+        self.report(desk, With("set_deadline", deadline), said)
     }
 
     // Files the next order, and waits until it is taken.
-    fn file(&mut self, desk: &mut Desk, orders: &'static [&'static str]) -> io::Result<()> {
-        let Some((order, later)) = orders.split_first() else {
-            return Ok(());
-        };
-        let subject = Subject::from(*order);
-        let reply = self.unit.send_wait(ORDERS, &subject.0);
-        match status_of(reply) {
+    fn file(
+        &mut self,
+        desk: &mut Desk,
+        order: &str,
+        later: &'static [&'static str],
+    ) -> io::Result<()> {
+        let subject = Subject::from(order);
+        let said = Said(self.unit.send_wait(ORDERS, &subject.0));
+        match said.status() {
             Some(Status::Blocked) => desk.step = Step::Collect,
             Some(Status::Ok) => {
                 desk.role = Role::Intake(later);
@@ -102,21 +113,19 @@ impl Office<'_> {
             }
             _ => desk.step = Step::Rest,
         }
-        let name = desk.name;
-        let said = Said(reply);
-        println!(self.rt; "{name}: send_wait {subject} -> {said}")
+        self.report(desk, With("send_wait", subject), said)
     }
 
     // An intake hears what became of its order: taken, or withdrawn and to be filed again.
-    fn hear(&mut self, desk: &mut Desk, orders: &'static [&'static str]) -> io::Result<()> {
-        let reply = self.unit.collect(&mut []);
-        self.report(desk, "collect", reply)?;
+    fn hear(&mut self, desk: &mut Desk, later: &'static [&'static str]) -> io::Result<()> {
+        let said = Said(self.unit.collect(&mut []));
+        self.report(desk, "collect", said)?;
         desk.step = Step::Prepare;
         let name = desk.name;
-        if status_of(reply) != Some(Status::Ok) {
+        if said.status() != Some(Status::Ok) {
             return println!(self.rt; "{name}: the order was withdrawn, and will be filed again");
         }
-        desk.role = Role::Intake(orders.get(1..).unwrap_or(&[]));
+        desk.role = Role::Intake(later);
         let counter = self.unit.ticks();
         let deadline = desk.deadline;
         if counter < deadline {
@@ -129,24 +138,24 @@ impl Office<'_> {
 
     // Receives, or waits to.
     fn receive(&mut self, desk: &mut Desk, mailbox: MailboxNumber) -> io::Result<()> {
-        let reply = self.unit.receive_wait(mailbox, &mut desk.paper.0);
-        self.received(desk, "receive_wait", reply)
+        let said = Said(self.unit.receive_wait(mailbox, &mut desk.paper.0));
+        self.received(desk, "receive_wait", said)
     }
 
     // Collects what it has waited for.
     fn collect(&mut self, desk: &mut Desk) -> io::Result<()> {
-        let reply = self.unit.collect(&mut desk.paper.0);
-        self.received(desk, "collect", reply)
+        let said = Said(self.unit.collect(&mut desk.paper.0));
+        self.received(desk, "collect", said)
     }
 
     // What a desk does after a receive or its collect.
-    fn received(&self, desk: &mut Desk, call: &str, reply: Reply) -> io::Result<()> {
-        desk.step = match status_of(reply) {
+    fn received(&self, desk: &mut Desk, call: &'static str, said: Said) -> io::Result<()> {
+        desk.step = match said.status() {
             Some(Status::Ok) => Step::Pass,
             Some(Status::Blocked) => Step::Collect,
             _ => Step::Prepare,
         };
-        self.report(desk, call, reply)
+        self.report(desk, call, said)
     }
 
     // A signer gives a serial, passes the certificate on, and then rests.
@@ -163,8 +172,8 @@ impl Office<'_> {
     // Passes the paper in hand on.
     fn forward(&mut self, desk: &mut Desk, mailbox: MailboxNumber) -> io::Result<()> {
         desk.step = Step::Prepare;
-        let reply = self.unit.send_no_wait(mailbox, &desk.paper.0);
-        self.report(desk, "send_no_wait", reply)
+        let said = Said(self.unit.send_no_wait(mailbox, &desk.paper.0));
+        self.report(desk, "send_no_wait", said)
     }
 
     // A clerk publishes a certificate.
@@ -179,13 +188,13 @@ impl Office<'_> {
 
     fn rest(&mut self, desk: &mut Desk) -> io::Result<()> {
         desk.step = Step::Wake;
-        let reply = self.unit.wait(desk.rest);
-        self.report(desk, "wait", reply)
+        let said = Said(self.unit.wait(desk.rest));
+        self.report(desk, "wait", said)
     }
 
     fn wake(&mut self, desk: &mut Desk) -> io::Result<()> {
         desk.step = Step::Prepare;
-        let reply = self.unit.collect(&mut []);
-        self.report(desk, "collect", reply)
+        let said = Said(self.unit.collect(&mut []));
+        self.report(desk, "collect", said)
     }
 }
