@@ -42,32 +42,39 @@ fn play_all<S: Store + Drop, O: Order + Copy, F: Fn() -> S>(
     }
 }
 
+// Both stores, by such an order, over the slots first.
+fn on_both_stores<O: Order + Copy>(
+    rt: &impl Abort,
+    [slots, packed]: [&'static str; 2],
+    order: O,
+    examples: &[Example],
+) {
+    play_all(rt, slots, SlotStore::new, order, examples);
+    play_all(rt, packed, PackedStore::new, order, examples);
+}
+
 fn by_deadline(rt: &impl Abort, examples: &[Example]) {
-    play_all(
-        rt,
-        "slots by deadline",
-        SlotStore::new,
-        DeadlineOrder,
-        examples,
-    );
-    play_all(
-        rt,
-        "packed by deadline",
-        PackedStore::new,
-        DeadlineOrder,
-        examples,
-    );
+    let kinds = ["slots by deadline", "packed by deadline"];
+    on_both_stores(rt, kinds, DeadlineOrder, examples);
 }
 
 fn by_level(rt: &impl Abort, examples: &[Example]) {
-    play_all(rt, "slots by level", SlotStore::new, LevelOrder, examples);
-    play_all(
-        rt,
-        "packed by level",
-        PackedStore::new,
-        LevelOrder,
-        examples,
-    );
+    let kinds = ["slots by level", "packed by level"];
+    on_both_stores(rt, kinds, LevelOrder, examples);
+}
+
+// Both orders, over such a store, by deadline first.
+fn by_both_orders<S: Store + Drop, F: Fn() -> S + Copy>(
+    rt: &impl Abort,
+    kinds: [&'static str; 2],
+    make: F,
+    examples: &[Example],
+)
+    requires { F.IsAlwaysCallable make }
+{
+    let [by_deadline, by_level] = kinds;
+    play_all(rt, by_deadline, make, DeadlineOrder, examples);
+    play_all(rt, by_level, make, LevelOrder, examples);
 }
 
 // Both stores and both orders.
@@ -126,34 +133,14 @@ fn a_start_up_kernel_refuses(rt: HostRuntime) -> Result<(), Fail> {
 
 #[test]
 fn a_full_slot_store_refuses(rt: HostRuntime) {
-    let examples = &SLOTS_FULL;
-    play_all(
-        &rt,
-        "slots by deadline",
-        SlotStore::new,
-        DeadlineOrder,
-        examples,
-    );
-    play_all(&rt, "slots by level", SlotStore::new, LevelOrder, examples);
+    let kinds = ["slots by deadline", "slots by level"];
+    by_both_orders(&rt, kinds, SlotStore::new, &SLOTS_FULL);
 }
 
 #[test]
 fn a_full_packed_store_refuses(rt: HostRuntime) {
-    let examples = &MEMORY_FULL;
-    play_all(
-        &rt,
-        "packed by deadline",
-        PackedStore::new,
-        DeadlineOrder,
-        examples,
-    );
-    play_all(
-        &rt,
-        "packed by level",
-        PackedStore::new,
-        LevelOrder,
-        examples,
-    );
+    let kinds = ["packed by deadline", "packed by level"];
+    by_both_orders(&rt, kinds, PackedStore::new, &MEMORY_FULL);
 }
 
 #[test]

@@ -31,6 +31,7 @@ pub(crate) enum Says {
     Brings(u32, usize, [u8; 4]),
 }
 
+// Call and Refused are two cases and no Result: so an example's lines read shorter, without Ok(..) and Err(..) in each.
 #[derive(Clone, Copy)]
 pub(crate) enum Line {
     // With a buffer of four bytes.
@@ -56,7 +57,7 @@ pub(crate) struct Example {
     // Number, deadline and level of each.
     pub(crate) tasks: &'static [(u8, u32, u8)],
     pub(crate) lines: &'static [Line],
-    // Accepted, queued, handed over, withdrawn, displaced.
+    // Accepted, queued, handed over, withdrawn, displaced: five numbers in a row, where a Counts would take seven lines.
     pub(crate) counts: [u64; 5],
 }
 
