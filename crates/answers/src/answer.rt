@@ -122,7 +122,7 @@ impl fmt::Display for Answer {
 
     fn fmt<W: fmt::Write>(&self, f: &mut fmt::Formatter<W>) -> fmt::Result {
         let message = Field(" message=", self.message.map(u64::from));
-        // A cast, since from usize to u64 there is no `From`.
+        // A cast, since from usize there is no `From`, and `try_from(..).unwrap()` is no plainer.
         let length = Field(" length=", self.length.map(|n| n as u64));
         let displaced = Field(" displaced=", self.displaced.map(u64::from));
         write!(f, "{}{message}{length}{displaced}", self.status)

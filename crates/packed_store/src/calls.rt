@@ -51,7 +51,7 @@ impl Store for PackedStore {
 
     ghost tally = { used_total_of };
 
-    // From usize to u32 there is no `From`, so casts that are proved to lose nothing stand here and below.
+    // Casts here and below, proved to lose nothing: from usize there is no `From`, and `try_from(..).unwrap()` is no plainer.
     fn capacity() -> u32 {
         SIZE as u32
     }

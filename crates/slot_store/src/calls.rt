@@ -52,7 +52,7 @@ impl Store for SlotStore {
 
     ghost tally = { used_total_of };
 
-    // A cast that is proved to lose nothing: from usize to u32 there is no `From`.
+    // A cast, proved to lose nothing: from usize there is no `From`, and `try_from(..).unwrap()` is no plainer.
     fn capacity() -> u32 {
         SLOTS as u32
     }
