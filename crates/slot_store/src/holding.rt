@@ -1,14 +1,14 @@
 // Changes of slots in a row. They are no methods of the store: a method ends with `used` counted, by the store's
 // invariant, and these leave it to their caller.
-ghost use Rattle.std.specs.Prelude.{◌≡◌, ◌<◌, ◌≤◌, [], length};
+ghost use Rattle.std.specs.Prelude.{◌≡◌, ◌<◌, [], length};
+ghost use Rattle.store.specs.Meaning.{Allowed};
 ghost use Rattle.slot_store.specs.Slots.{Changed, messages, only};
 
 use crate::slot::Message;
 
 pub(crate) fn fill_at(slots: &mut [Option<Message>], i: usize, number: u32, message: &[u8])
     requires within { i < length slots.old }
-    requires some { 1 ≤ length message.now }
-    requires short { length message.now ≤ 128 }
+    requires allowed { Allowed (length message.now) }
     ensures { Changed slots.old i (only number message.now) slots.new }
 {
     slots[i] = Some(Message::new(number, message));

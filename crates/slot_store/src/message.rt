@@ -1,6 +1,7 @@
 // What a message is made of, and the bytes that it gives. Not beside the struct: the file of a struct with ghost fields
 // may name no spec that leads back to the struct, as `Slots` does.
-ghost use Rattle.std.specs.Prelude.{◌≡◌, ◌≤◌, length};
+ghost use Rattle.std.specs.Prelude.{◌≡◌, length};
+ghost use Rattle.store.specs.Meaning.{Allowed};
 ghost use Rattle.slot_store.specs.Slots.{bytes_of};
 
 use crate::slot::Message;
@@ -8,8 +9,7 @@ use store::{MAX_LENGTH, copy_front};
 
 impl Message {
     pub(crate) fn new(number: u32, message: &[u8]) -> Message
-        requires some { 1 ≤ length message.now }
-        requires short { length message.now ≤ 128 }
+        requires { Allowed (length message.now) }
         ensures numbered { result.number ≡ number }
         ensures holds { bytes_of result ≡ message.now }
     {
