@@ -1,5 +1,5 @@
 // A list of at most N items in a fixed table, with no heap: the ready list, queues and receivers are made of it.
-// Also (places.rt) a write to a table where it has the place.
+// Also (places.rt) a write to a table, and a change of what stands in it, where it has the place.
 #![tactic(auto)]
 
 ghost use Rattle.std.specs.Prelude.{◌≡◌, ℕ, ◌≤◌, length};
@@ -7,7 +7,7 @@ ghost use Rattle.std.specs.Prelude.{◌≡◌, ℕ, ◌≤◌, length};
 mod edits;
 mod places;
 
-pub use places::write;
+pub use places::{edit, write};
 use std::alloc::AllocError;
 
 // Not the kit's `ArrayVec`: this type is public and promises `Copy`, which that isn't, and that needs `T: Default` for the places

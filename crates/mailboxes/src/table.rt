@@ -7,7 +7,7 @@ ghost use Rattle.mailboxes.specs.Meaning.{edited_at, mailbox_of, mailboxes_in, m
 
 use crate::{Mailbox, Mailboxes, ROWS};
 use art::{MailboxNumber, Message, TaskNumber};
-use fixed::write;
+use fixed::{edit, write};
 
 impl Mailboxes {
     // No mailbox.
@@ -63,12 +63,7 @@ impl Mailboxes {
         requires { IfSome (slice_index_or self.old.rows m None) (λ row. FnOnceTakesAtMut F.FnOnce change row) }
         ensures { MatchOption (slice_index_or self.old.rows m None) (self.new.rows ≡ self.old.rows) (λ row. (next : _) × FnOnceReturnsAtMut F.FnOnce change row tt next × (self.new.rows ≡ slice_set self.old.rows m (Some next))) }
     {
-        let place = usize::from(m);
-        if place < ROWS {
-            if let Some(mailbox) = &mut self.rows[place] {
-                change(mailbox);
-            }
-        }
+        edit(&mut self.rows, usize::from(m), change);
     }
 
     // A message comes to the end of a mailbox's queue. The room that this asks for, and that `join_receivers` does, is one

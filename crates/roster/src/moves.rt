@@ -11,7 +11,7 @@ ghost use Rattle.roster.specs.View.{HasRoom, ready_in, tasks_in};
 use crate::place::idle_task;
 use crate::{PLACES, Roster};
 use art::{Activity, IDLE_TASK, Task, TaskNumber};
-use fixed::{FixedList, write};
+use fixed::{FixedList, edit, write};
 
 impl Roster {
     // The idle task alone, which runs.
@@ -117,12 +117,7 @@ impl Roster {
         ensures table { MatchOption (slice_index_or self.old.tasks t None) (self.new.tasks ≡ self.old.tasks) (λ x. (y : Task) × FnOnceReturnsAtMut F.FnOnce change x tt y × (self.new.tasks ≡ slice_set self.old.tasks t (Some y))) }
         ensures list { ready_in self.new ≡ ready_in self.old }
     {
-        let place = usize::from(t);
-        if place < PLACES {
-            if let Some(x) = &mut self.tasks[place] {
-                change(x);
-            }
-        }
+        edit(&mut self.tasks, usize::from(t), change);
     }
 
     // Whatever becomes of a task, where the list stays covered. One line over `write`, as in the table of mailboxes: each table

@@ -1,26 +1,30 @@
--- The task is changed where there is one.
-use Rattle.std.proofs.Common.{◌≡◌, get_or, set, length, Some, None, refl, sym, ap, ◌∙◌, subst, arith, IfSome, ◌≤◌}
+-- The place of a task is its number, and the list stays covered.
+use Rattle.std.proofs.Common.{◌≡◌, ℕ, ◌≤◌, List, get_or, set, length, Option, Some, None, sym, ◌∙◌, subst, ap, IfSome, MatchOption}
 use Rattle.std.specs.Fn.{FnOnceReturnsAtMut}
-use Rattle.std.proofs.lemmas.List.{get_or_default, length-set}
+use Rattle.std.proofs.lemmas.List.{length-set}
+use Rattle.art.specs.declared.task.Task.{Task}
 use Rattle.fixed.specs.Items.{items}
 use Rattle.roster.specs.Places.{ready_count}
 use Rattle.roster.proofs.Roster.edit.Goals as goal
 
+module _ (R : Task → Task → Type 0) (old new : List (Option Task)) (t : ℕ) where
+  long : (o : Option Task) → MatchOption o (new ≡ old) (λ x. (y : Task) × R x y × (new ≡ set old t (Some y))) → length new ≡ length old
+  long None is = ap length is
+  long (Some x) is = ap length is.2 ∙ length-set old t (Some is.0)
+
+  covers : (n : ℕ) (o : Option Task) → n ≤ ready_count old → IfSome o (λ x. (y : Task) → R x y → n ≤ ready_count (set old t (Some y))) → MatchOption o (new ≡ old) (λ x. (y : Task) × R x y × (new ≡ set old t (Some y))) → n ≤ ready_count new
+  covers n None h may is = subst (λ ts. n ≤ ready_count ts) (sym is) h
+  covers n (Some x) h may is = subst (λ ts. n ≤ ready_count ts) (sym is.2) (may is.0 is.1)
+
+pub returns-clause-table : goal.returns-clause-table
+returns-clause-table g c = rw c.from.ensures at c.edit.ensures
+
 pub invariant_of-self : goal.invariant_of-self
 invariant_of-self g c =
-    let tasks = c.args.self.now.tasks in
-    let row : get_or tasks c.args.t None ≡ Some c.in-Some.x =
-    ap (λ k. get_or tasks k None) (sym c.from-place.ensures) ∙ get_or_default tasks c.from-place.result None _ (omega arith) ∙ c.in-Some.is in
-    let may = subst (λ o. IfSome o (λ x. (y : _) → FnOnceReturnsAtMut g.F.FnOnce c.args.change x tt y → length (items c.args.self.now.ready) ≤ ready_count (set tasks c.args.t (Some y)))) row c.requires.covered in
-    let met = may c.change.new.arg2 (record { shown = _; shows = refl; left = _; met = c.change.ensures; leaves = refl }) in
+    let s = c.args.self.now in
+    let R : Task → Task → Type 0 = λ x y. FnOnceReturnsAtMut g.F.FnOnce c.args.change x tt y in
+    let is = rw c.from.ensures at c.edit.ensures in
     record {
-      whole = length-set tasks c.from-place.result _ ∙ c.args.self.now.whole;
-      covered = subst (λ k. length (items c.args.self.now.ready) ≤ ready_count (set tasks k (Some c.change.new.arg2))) (sym c.from-place.ensures) met;
+      whole = long R s.tasks _ c.args.t (get_or s.tasks c.args.t None) is ∙ s.whole;
+      covered = covers R s.tasks _ c.args.t (length (items s.ready)) (get_or s.tasks c.args.t None) s.covered c.requires.covered is;
     }
-
-pub returns-in-Some-clause-table : goal.returns-in-Some-clause-table
-returns-in-Some-clause-table g c =
-    let tasks = c.args.self.now.tasks in
-    let row : get_or tasks c.args.t None ≡ Some c.in-Some.x =
-    ap (λ k. get_or tasks k None) (sym c.from-place.ensures) ∙ get_or_default tasks c.from-place.result None _ (omega arith) ∙ c.in-Some.is in
-    rw row (c.change.new.arg2, record { shown = _; shows = refl; left = _; met = c.change.ensures; leaves = refl }, ap (λ k. set tasks k (Some c.change.new.arg2)) c.from-place.ensures)
