@@ -1,6 +1,6 @@
 //! What calls answer: answers, refusals and counts, with their printed forms.
 
-use crate::store::StoreFault;
+use crate::store::{print_refusal, StoreFault};
 use std::fmt;
 
 #[derive(Clone, Copy, Debug, PartialEq, Eq)]
@@ -34,15 +34,26 @@ pub struct Answer {
 impl Answer {
     /// An answer that is a status alone.
     pub fn of(status: Status) -> Answer {
-        Answer { status, message: None, length: None, displaced: None }
+        Answer {
+            status,
+            message: None,
+            length: None,
+            displaced: None,
+        }
     }
 
     pub fn with_message(self, message: u32) -> Answer {
-        Answer { message: Some(message), ..self }
+        Answer {
+            message: Some(message),
+            ..self
+        }
     }
 
     pub fn with_length(self, length: usize) -> Answer {
-        Answer { length: Some(length), ..self }
+        Answer {
+            length: Some(length),
+            ..self
+        }
     }
 }
 
@@ -112,25 +123,59 @@ impl fmt::Display for Counts {
 /// Why a call is refused. The fields are the places.
 #[derive(Clone, Copy, Debug, PartialEq, Eq)]
 pub enum Refusal {
-    AnswerDue { task: u8 },
-    NothingDue { task: u8 },
-    IdleTask { task: u8 },
-    BadNumber { number: u8 },
-    BadLevel { task: u8 },
-    BadShape { mailbox: u8 },
-    Taken { number: u8 },
-    NoMailbox { mailbox: u8 },
-    NotEmpty { mailbox: u8 },
-    WrongSize { mailbox: u8 },
+    AnswerDue {
+        task: u8,
+    },
+    NothingDue {
+        task: u8,
+    },
+    IdleTask {
+        task: u8,
+    },
+    BadNumber {
+        number: u8,
+    },
+    BadLevel {
+        task: u8,
+    },
+    BadShape {
+        mailbox: u8,
+    },
+    Taken {
+        number: u8,
+    },
+    NoMailbox {
+        mailbox: u8,
+    },
+    NotEmpty {
+        mailbox: u8,
+    },
+    WrongSize {
+        mailbox: u8,
+    },
     /// A receive into a buffer that is too short.
-    ShortBuffer { mailbox: u8 },
+    ShortBuffer {
+        mailbox: u8,
+    },
     /// A collect into a buffer that is too short.
-    ShortCollect { task: u8 },
-    Mixed { mailbox: u8 },
-    Empty { mailbox: u8 },
-    Full { mailbox: u8 },
-    TooLong { task: u8 },
-    NumbersSpent { task: u8 },
+    ShortCollect {
+        task: u8,
+    },
+    Mixed {
+        mailbox: u8,
+    },
+    Empty {
+        mailbox: u8,
+    },
+    Full {
+        mailbox: u8,
+    },
+    TooLong {
+        task: u8,
+    },
+    NumbersSpent {
+        task: u8,
+    },
     Store(StoreFault),
 }
 
@@ -165,10 +210,20 @@ impl Refusal {
             NumbersSpent { task } => (16, "NUMBERS_SPENT", "kernel", task),
             Store(ref fault) => {
                 let (number, name, layer) = (fault.number(), fault.name(), fault.layer());
-                return Row { number, name, layer, place: fault.place() };
+                return Row {
+                    number,
+                    name,
+                    layer,
+                    place: fault.place(),
+                };
             }
         };
-        Row { number, name, layer, place: u32::from(place) }
+        Row {
+            number,
+            name,
+            layer,
+            place: u32::from(place),
+        }
     }
 
     pub fn number(&self) -> u8 {
@@ -204,12 +259,8 @@ impl From<StoreFault> for Refusal {
 
 impl fmt::Display for Refusal {
     fn fmt(&self, f: &mut fmt::Formatter) -> fmt::Result {
-        let (number, name, layer, place) = (self.number(), self.name(), self.layer(), self.place());
-        write!(f, "refused {number} {name} layer={layer} place={place}")?;
-        match self.units() {
-            Some((wanted, free)) => write!(f, " wanted={wanted} free={free}"),
-            None => Ok(()),
-        }
+        let row = (self.number(), self.name(), self.layer(), self.place());
+        print_refusal(f, row, self.units())
     }
 }
 
@@ -221,44 +272,117 @@ mod tests {
     fn printed_answers() {
         let ok = Answer::of(Status::Ok);
         assert_eq!(ok.to_string(), "OK");
-        assert_eq!(Answer::of(Status::Blocked).with_message(8).to_string(), "BLOCKED message=8");
-        let displacing = Answer { displaced: Some(7), ..ok.with_message(9) };
+        assert_eq!(
+            Answer::of(Status::Blocked).with_message(8).to_string(),
+            "BLOCKED message=8"
+        );
+        let displacing = Answer {
+            displaced: Some(7),
+            ..ok.with_message(9)
+        };
         assert_eq!(displacing.to_string(), "OK message=9 displaced=7");
-        assert_eq!(ok.with_message(7).with_length(2).to_string(), "OK message=7 length=2");
+        assert_eq!(
+            ok.with_message(7).with_length(2).to_string(),
+            "OK message=7 length=2"
+        );
         let late = Answer::of(Status::DeadlineReached);
-        assert_eq!(late.with_message(8).to_string(), "DEADLINE_REACHED message=8");
+        assert_eq!(
+            late.with_message(8).to_string(),
+            "DEADLINE_REACHED message=8"
+        );
         assert_eq!(late.to_string(), "DEADLINE_REACHED");
     }
 
     #[test]
     fn printed_counts() {
-        let counts = Counts { accepted: 5, queued: 1, handed_over: 3, withdrawn: 1, displaced: 0 };
-        assert_eq!(counts.to_string(), "accepted=5 queued=1 handed_over=3 withdrawn=1 displaced=0");
+        let counts = Counts {
+            accepted: 5,
+            queued: 1,
+            handed_over: 3,
+            withdrawn: 1,
+            displaced: 0,
+        };
+        assert_eq!(
+            counts.to_string(),
+            "accepted=5 queued=1 handed_over=3 withdrawn=1 displaced=0"
+        );
     }
 
     #[test]
     fn printed_refusals() {
         use Refusal::*;
-        let full = StoreFault::StoreFull { message: 71, wanted: 1, free: 0 };
+        let full = StoreFault::StoreFull {
+            message: 71,
+            wanted: 1,
+            free: 0,
+        };
         for (refusal, text) in [
-            (AnswerDue { task: 9 }, "refused 1 ANSWER_DUE layer=kernel place=9"),
-            (NothingDue { task: 9 }, "refused 2 NOTHING_DUE layer=kernel place=9"),
-            (IdleTask { task: 0 }, "refused 3 IDLE_TASK layer=kernel place=0"),
-            (BadNumber { number: 255 }, "refused 4 BAD_NUMBER layer=kernel place=255"),
-            (BadLevel { task: 9 }, "refused 5 BAD_LEVEL layer=kernel place=9"),
-            (BadShape { mailbox: 9 }, "refused 6 BAD_SHAPE layer=kernel place=9"),
+            (
+                AnswerDue { task: 9 },
+                "refused 1 ANSWER_DUE layer=kernel place=9",
+            ),
+            (
+                NothingDue { task: 9 },
+                "refused 2 NOTHING_DUE layer=kernel place=9",
+            ),
+            (
+                IdleTask { task: 0 },
+                "refused 3 IDLE_TASK layer=kernel place=0",
+            ),
+            (
+                BadNumber { number: 255 },
+                "refused 4 BAD_NUMBER layer=kernel place=255",
+            ),
+            (
+                BadLevel { task: 9 },
+                "refused 5 BAD_LEVEL layer=kernel place=9",
+            ),
+            (
+                BadShape { mailbox: 9 },
+                "refused 6 BAD_SHAPE layer=kernel place=9",
+            ),
             (Taken { number: 9 }, "refused 7 TAKEN layer=kernel place=9"),
-            (NoMailbox { mailbox: 9 }, "refused 8 NO_MAILBOX layer=mailbox place=9"),
-            (NotEmpty { mailbox: 9 }, "refused 9 NOT_EMPTY layer=mailbox place=9"),
-            (WrongSize { mailbox: 9 }, "refused 10 WRONG_SIZE layer=mailbox place=9"),
-            (ShortBuffer { mailbox: 9 }, "refused 11 SHORT_BUFFER layer=mailbox place=9"),
-            (ShortCollect { task: 63 }, "refused 11 SHORT_BUFFER layer=kernel place=63"),
-            (Mixed { mailbox: 9 }, "refused 12 MIXED layer=mailbox place=9"),
-            (Empty { mailbox: 9 }, "refused 13 EMPTY layer=mailbox place=9"),
+            (
+                NoMailbox { mailbox: 9 },
+                "refused 8 NO_MAILBOX layer=mailbox place=9",
+            ),
+            (
+                NotEmpty { mailbox: 9 },
+                "refused 9 NOT_EMPTY layer=mailbox place=9",
+            ),
+            (
+                WrongSize { mailbox: 9 },
+                "refused 10 WRONG_SIZE layer=mailbox place=9",
+            ),
+            (
+                ShortBuffer { mailbox: 9 },
+                "refused 11 SHORT_BUFFER layer=mailbox place=9",
+            ),
+            (
+                ShortCollect { task: 63 },
+                "refused 11 SHORT_BUFFER layer=kernel place=63",
+            ),
+            (
+                Mixed { mailbox: 9 },
+                "refused 12 MIXED layer=mailbox place=9",
+            ),
+            (
+                Empty { mailbox: 9 },
+                "refused 13 EMPTY layer=mailbox place=9",
+            ),
             (Full { mailbox: 9 }, "refused 14 FULL layer=mailbox place=9"),
-            (TooLong { task: 9 }, "refused 15 TOO_LONG layer=kernel place=9"),
-            (NumbersSpent { task: 9 }, "refused 16 NUMBERS_SPENT layer=kernel place=9"),
-            (Store(full), "refused 20 STORE_FULL layer=store place=71 wanted=1 free=0"),
+            (
+                TooLong { task: 9 },
+                "refused 15 TOO_LONG layer=kernel place=9",
+            ),
+            (
+                NumbersSpent { task: 9 },
+                "refused 16 NUMBERS_SPENT layer=kernel place=9",
+            ),
+            (
+                Store(full),
+                "refused 20 STORE_FULL layer=store place=71 wanted=1 free=0",
+            ),
         ] {
             assert_eq!(refusal.to_string(), text);
         }

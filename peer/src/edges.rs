@@ -13,8 +13,14 @@ fn check(transcript: &str) {
         let Some((call, answer)) = line.split_once(" -> ") else {
             continue;
         };
-        let (_, outcome) = play_line(call.as_bytes(), &mut stage).unwrap().expect("a call");
-        assert_eq!(outcome.to_string(), answer, "the answer of `{call}` in {transcript}");
+        let (_, outcome) = play_line(call.as_bytes(), &mut stage)
+            .unwrap()
+            .expect("a call");
+        assert_eq!(
+            outcome.to_string(),
+            answer,
+            "the answer of `{call}` in {transcript}"
+        );
         if let Some(kernel) = stage.kernel() {
             kernel.audit();
         }
@@ -28,7 +34,12 @@ fn check_all(transcript: &str) {
 }
 
 fn check_all_from(first: u32, transcript: &str) {
-    for kind in ["slot deadline", "slot level", "packed deadline", "packed level"] {
+    for kind in [
+        "slot deadline",
+        "slot level",
+        "packed deadline",
+        "packed level",
+    ] {
         check(&format!("kernel {kind} {first} -> OK\n{transcript}"));
     }
 }
@@ -331,7 +342,12 @@ fn the_last_message_number() {
 
 /// Sends of one byte, as the messages from one number to another, to mailboxes 0 and up, 16 to each.
 fn sends(from: u32, to: u32) -> String {
-    let line = |message: u32| format!("send_no_wait {} 01 -> OK message={message}\n", (message - from) / 16);
+    let line = |message: u32| {
+        format!(
+            "send_no_wait {} 01 -> OK message={message}\n",
+            (message - from) / 16
+        )
+    };
     (from..=to).map(line).collect()
 }
 
@@ -389,7 +405,12 @@ fn the_slot_store_is_full_at_64_messages() {
 #[test]
 fn the_packed_store_counts_bytes_and_16_more() {
     let bytes = "00".repeat(128);
-    let send = |message| format!("send_no_wait {} {bytes} -> OK message={message}\n", message / 16);
+    let send = |message| {
+        format!(
+            "send_no_wait {} {bytes} -> OK message={message}\n",
+            message / 16
+        )
+    };
     let sends: String = (0..28).map(send).collect();
     let (fits, too_long) = ("11".repeat(48), "11".repeat(49));
     check(&format!(
@@ -702,12 +723,22 @@ fn the_example_of_the_page() {
     start.create_mailbox(3, 2, 2).unwrap();
     let mut kernel = start.run();
     let mut buffer = *b"....";
-    assert_eq!(kernel.receive_wait(3, &mut buffer), Ok(Answer::of(Status::Blocked)));
-    assert_eq!(kernel.send_wait(3, b"hi"), Ok(Answer::of(Status::Ok).with_message(7)));
+    assert_eq!(
+        kernel.receive_wait(3, &mut buffer),
+        Ok(Answer::of(Status::Blocked))
+    );
+    assert_eq!(
+        kernel.send_wait(3, b"hi"),
+        Ok(Answer::of(Status::Ok).with_message(7))
+    );
     let brought = Answer::of(Status::Ok).with_message(7).with_length(2);
     assert_eq!(kernel.collect(&mut buffer), Ok(brought));
     assert_eq!(&buffer, b"hi..");
     assert_eq!(kernel.tick(), (0, 1));
-    let counts = Counts { accepted: 1, handed_over: 1, ..Counts::default() };
+    let counts = Counts {
+        accepted: 1,
+        handed_over: 1,
+        ..Counts::default()
+    };
     assert_eq!(kernel.close(), counts);
 }

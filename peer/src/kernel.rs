@@ -112,7 +112,11 @@ pub struct StartUp {
 pub fn init_kernel(mut store: Store, order: Order, first_message: u32) -> StartUp {
     store.clear();
     let state = State::Ready { due: None };
-    let idle = Task { deadline: TOP, level: LAST_LEVEL, state };
+    let idle = Task {
+        deadline: TOP,
+        level: LAST_LEVEL,
+        state,
+    };
     StartUp {
         kernel: Kernel {
             store,
@@ -132,7 +136,12 @@ impl StartUp {
         self.kernel.create_task(number, deadline, level)
     }
 
-    pub fn create_mailbox(&mut self, number: u8, capacity: u8, size: u8) -> Result<Answer, Refusal> {
+    pub fn create_mailbox(
+        &mut self,
+        number: u8,
+        capacity: u8,
+        size: u8,
+    ) -> Result<Answer, Refusal> {
         self.kernel.create_mailbox(number, capacity, size)
     }
 
@@ -171,7 +180,14 @@ impl Kernel {
         row_7_taken(&self.tasks, number)?;
 
         let state = State::Ready { due: None };
-        self.tasks.insert(number, Task { deadline, level, state });
+        self.tasks.insert(
+            number,
+            Task {
+                deadline,
+                level,
+                state,
+            },
+        );
         self.enter_ready_list(number);
         Ok(Answer::of(Status::Ok))
     }
@@ -185,7 +201,12 @@ impl Kernel {
         Ok(Answer::of(Status::Ok))
     }
 
-    pub fn create_mailbox(&mut self, number: u8, capacity: u8, size: u8) -> Result<Answer, Refusal> {
+    pub fn create_mailbox(
+        &mut self,
+        number: u8,
+        capacity: u8,
+        size: u8,
+    ) -> Result<Answer, Refusal> {
         self.row_1_answer_due()?;
         row_4_bad_mailbox_number(number)?;
         row_6_bad_shape(number, capacity, size)?;
@@ -229,8 +250,17 @@ impl Kernel {
         if self.give_to_receiver(number, message) {
             return Ok(Answer::of(Status::Ok).with_message(message));
         }
-        let sender = self.block(State::Sending { mailbox: number, message });
-        self.enqueue(number, Queued { message, sender: Some(sender) });
+        let sender = self.block(State::Sending {
+            mailbox: number,
+            message,
+        });
+        self.enqueue(
+            number,
+            Queued {
+                message,
+                sender: Some(sender),
+            },
+        );
         Ok(Answer::of(Status::Blocked).with_message(message))
     }
 
@@ -249,9 +279,18 @@ impl Kernel {
         }
         self.accept(message, bytes);
         if !self.give_to_receiver(number, message) {
-            self.enqueue(number, Queued { message, sender: None });
+            self.enqueue(
+                number,
+                Queued {
+                    message,
+                    sender: None,
+                },
+            );
         }
-        Ok(Answer { displaced, ..Answer::of(Status::Ok).with_message(message) })
+        Ok(Answer {
+            displaced,
+            ..Answer::of(Status::Ok).with_message(message)
+        })
     }
 
     /// The message that a `send_no_wait` to the mailbox displaces: the oldest, if there is no room.
@@ -265,14 +304,22 @@ impl Kernel {
     }
 
     fn displace_oldest(&mut self, number: u8) {
-        let oldest = self.mailbox_mut(number).queue.pop_front().expect("a full queue has a message");
-        self.store.discard(oldest.message).expect("a queued message is held");
+        let oldest = self
+            .mailbox_mut(number)
+            .queue
+            .pop_front()
+            .expect("a full queue has a message");
+        self.store
+            .discard(oldest.message)
+            .expect("a queued message is held");
         self.counts.settle(Fate::Displaced);
     }
 
     /// Puts the bytes into the store, uses up the message number, and counts the message.
     fn accept(&mut self, message: u32, bytes: &[u8]) {
-        self.store.put(message, bytes).expect("row 20 has been tried");
+        self.store
+            .put(message, bytes)
+            .expect("row 20 has been tried");
         self.next_message = message.checked_add(1);
         self.counts.accept();
     }
@@ -344,16 +391,24 @@ impl Kernel {
         let answer = self.bring(taken.message, buffer);
         self.counts.settle(Fate::HandedOver);
         if let Some(sender) = taken.sender {
-            self.make_ready(sender, Due::Plain(Answer::of(Status::Ok).with_message(taken.message)));
+            self.make_ready(
+                sender,
+                Due::Plain(Answer::of(Status::Ok).with_message(taken.message)),
+            );
         }
         answer
     }
 
     /// Moves the bytes of a message from the store to the front of the buffer.
     fn bring(&mut self, message: u32, buffer: &mut [u8]) -> Answer {
-        let length = self.store.copy(message, buffer).expect("the message is held and row 11 was tried");
+        let length = self
+            .store
+            .copy(message, buffer)
+            .expect("the message is held and row 11 was tried");
         self.store.discard(message).expect("the message is held");
-        Answer::of(Status::Ok).with_message(message).with_length(length)
+        Answer::of(Status::Ok)
+            .with_message(message)
+            .with_length(length)
     }
 }
 
@@ -402,8 +457,15 @@ impl Kernel {
     /// Answers how many tasks were readied, and which task runs now.
     pub fn tick(&mut self) -> (usize, u8) {
         self.counter = self.counter.saturating_add(1);
-        let visited: Vec<u8> = self.tasks.range(IDLE + 1..).map(|(&number, _)| number).collect();
-        let readied = visited.into_iter().filter(|&number| self.visit(number)).count();
+        let visited: Vec<u8> = self
+            .tasks
+            .range(IDLE + 1..)
+            .map(|(&number, _)| number)
+            .collect();
+        let readied = visited
+            .into_iter()
+            .filter(|&number| self.visit(number))
+            .count();
         (readied, self.running())
     }
 
@@ -414,7 +476,9 @@ impl Kernel {
         let late = Answer::of(Status::DeadlineReached);
         let answer = match task.state {
             State::Receiving { mailbox } if deadline_reached => {
-                self.mailbox_mut(mailbox).receivers.retain(|&receiver| receiver != number);
+                self.mailbox_mut(mailbox)
+                    .receivers
+                    .retain(|&receiver| receiver != number);
                 late
             }
             State::Sending { mailbox, message } if deadline_reached => {
@@ -431,8 +495,12 @@ impl Kernel {
 
     /// Takes a message out of its queue, wherever it stands there, and out of the store.
     fn withdraw(&mut self, mailbox: u8, message: u32) {
-        self.mailbox_mut(mailbox).queue.retain(|queued| queued.message != message);
-        self.store.discard(message).expect("a queued message is held");
+        self.mailbox_mut(mailbox)
+            .queue
+            .retain(|queued| queued.message != message);
+        self.store
+            .discard(message)
+            .expect("a queued message is held");
         self.counts.settle(Fate::Withdrawn);
     }
 
@@ -446,8 +514,13 @@ impl Kernel {
     /// Enters a task in front of the first one that it goes before, or else just in front of task 0.
     fn enter_ready_list(&mut self, number: u8) {
         let entering = self.task(number);
-        let behind = |&other: &u8| other == IDLE || self.order.goes_before(entering, self.task(other));
-        let place = self.ready.iter().position(behind).expect("task 0 is in the ready list");
+        let behind =
+            |&other: &u8| other == IDLE || self.order.goes_before(entering, self.task(other));
+        let place = self
+            .ready
+            .iter()
+            .position(behind)
+            .expect("task 0 is in the ready list");
         self.ready.insert(place, number);
     }
 
@@ -476,7 +549,9 @@ impl Kernel {
     }
 
     fn mailbox_mut(&mut self, number: u8) -> &mut Mailbox {
-        self.mailboxes.get_mut(&number).expect("row 8 has been tried, or a task waits there")
+        self.mailboxes
+            .get_mut(&number)
+            .expect("row 8 has been tried, or a task waits there")
     }
 }
 
@@ -499,59 +574,99 @@ impl Kernel {
     }
 
     fn row_8_no_mailbox(&self, number: u8) -> Result<(), Refusal> {
-        refuse_if(!self.mailboxes.contains_key(&number), Refusal::NoMailbox { mailbox: number })
+        refuse_if(
+            !self.mailboxes.contains_key(&number),
+            Refusal::NoMailbox { mailbox: number },
+        )
     }
 
     fn row_9_not_empty(&self, number: u8) -> Result<(), Refusal> {
-        refuse_if(!self.mailbox(number).is_empty(), Refusal::NotEmpty { mailbox: number })
+        refuse_if(
+            !self.mailbox(number).is_empty(),
+            Refusal::NotEmpty { mailbox: number },
+        )
     }
 
     fn row_10_wrong_size(&self, number: u8, bytes: &[u8]) -> Result<(), Refusal> {
-        refuse_if(bytes.len() != self.mailbox(number).size, Refusal::WrongSize { mailbox: number })
+        refuse_if(
+            bytes.len() != self.mailbox(number).size,
+            Refusal::WrongSize { mailbox: number },
+        )
     }
 
     fn row_11_short_buffer(&self, number: u8, buffer: &[u8]) -> Result<(), Refusal> {
-        refuse_if(buffer.len() < self.mailbox(number).size, Refusal::ShortBuffer { mailbox: number })
+        refuse_if(
+            buffer.len() < self.mailbox(number).size,
+            Refusal::ShortBuffer { mailbox: number },
+        )
     }
 
     /// Only an answer that brings a message asks for a buffer.
     fn row_11_short_collect(&self, due: Due, buffer: &[u8]) -> Result<(), Refusal> {
         let needed = match due {
             Due::Plain(_) => 0,
-            Due::Delivery { message } => self.store.length(message).expect("the message due is held"),
+            Due::Delivery { message } => {
+                self.store.length(message).expect("the message due is held")
+            }
         };
-        refuse_if(buffer.len() < needed, Refusal::ShortCollect { task: self.running() })
+        refuse_if(
+            buffer.len() < needed,
+            Refusal::ShortCollect {
+                task: self.running(),
+            },
+        )
     }
 
     fn row_12_mixed(&self, number: u8, mode: Mode) -> Result<(), Refusal> {
-        let mixed = self.mailbox(number).mode().is_some_and(|queued| queued != mode);
+        let mixed = self
+            .mailbox(number)
+            .mode()
+            .is_some_and(|queued| queued != mode);
         refuse_if(mixed, Refusal::Mixed { mailbox: number })
     }
 
     fn row_13_empty(&self, number: u8) -> Result<(), Refusal> {
-        refuse_if(self.mailbox(number).queue.is_empty(), Refusal::Empty { mailbox: number })
+        refuse_if(
+            self.mailbox(number).queue.is_empty(),
+            Refusal::Empty { mailbox: number },
+        )
     }
 
     fn row_14_full_of_messages(&self, number: u8) -> Result<(), Refusal> {
-        refuse_if(self.mailbox(number).queue_is_full(), Refusal::Full { mailbox: number })
+        refuse_if(
+            self.mailbox(number).queue_is_full(),
+            Refusal::Full { mailbox: number },
+        )
     }
 
     fn row_14_full_of_receivers(&self, number: u8) -> Result<(), Refusal> {
-        refuse_if(self.mailbox(number).receivers_are_full(), Refusal::Full { mailbox: number })
+        refuse_if(
+            self.mailbox(number).receivers_are_full(),
+            Refusal::Full { mailbox: number },
+        )
     }
 
     /// Gives the wake tick.
     fn row_15_too_long(&self, n: u32) -> Result<u32, Refusal> {
-        self.counter.checked_add(n).ok_or(Refusal::TooLong { task: self.running() })
+        self.counter.checked_add(n).ok_or(Refusal::TooLong {
+            task: self.running(),
+        })
     }
 
     /// Gives the next message number.
     fn row_16_numbers_spent(&self) -> Result<u32, Refusal> {
-        self.next_message.ok_or(Refusal::NumbersSpent { task: self.running() })
+        self.next_message.ok_or(Refusal::NumbersSpent {
+            task: self.running(),
+        })
     }
 
     /// The units of a message that is to be displaced count as free already.
-    fn row_20_store_full(&self, message: u32, bytes: &[u8], displaced: Option<u32>) -> Result<(), Refusal> {
+    fn row_20_store_full(
+        &self,
+        message: u32,
+        bytes: &[u8],
+        displaced: Option<u32>,
+    ) -> Result<(), Refusal> {
         let freed = displaced.and_then(|displaced| self.store.length(displaced));
         let freed = freed.map_or(0, |length| self.store.kind().cost(length));
         Ok(self.store.may_put(message, bytes.len(), freed)?)
@@ -559,7 +674,10 @@ impl Kernel {
 }
 
 fn row_4_bad_task_number(number: u8) -> Result<(), Refusal> {
-    refuse_if(number == IDLE || number > LAST_TASK, Refusal::BadNumber { number })
+    refuse_if(
+        number == IDLE || number > LAST_TASK,
+        Refusal::BadNumber { number },
+    )
 }
 
 fn row_4_bad_mailbox_number(number: u8) -> Result<(), Refusal> {
@@ -638,7 +756,11 @@ impl Kernel {
         let counts = self.counts;
         let fates = counts.queued + counts.handed_over + counts.withdrawn + counts.displaced;
         assert_eq!(counts.accepted, fates);
-        let standing: usize = self.mailboxes.values().map(|mailbox| mailbox.queue.len()).sum();
+        let standing: usize = self
+            .mailboxes
+            .values()
+            .map(|mailbox| mailbox.queue.len())
+            .sum();
         assert_eq!(counts.queued, standing as u64);
     }
 
@@ -647,7 +769,11 @@ impl Kernel {
             assert!(mailbox.queue.is_empty() || mailbox.receivers.is_empty());
             assert!(mailbox.queue.len() <= mailbox.capacity);
             assert!(mailbox.receivers.len() <= mailbox.capacity);
-            let waits = mailbox.queue.iter().filter(|queued| queued.sender.is_some()).count();
+            let waits = mailbox
+                .queue
+                .iter()
+                .filter(|queued| queued.sender.is_some())
+                .count();
             assert!(waits == 0 || waits == mailbox.queue.len());
             for queued in &mailbox.queue {
                 assert_eq!(self.store.length(queued.message), Some(mailbox.size));
@@ -660,11 +786,19 @@ impl Kernel {
         for (&number, task) in &self.tasks {
             match task.state {
                 State::Receiving { mailbox } => {
-                    assert_eq!(self.mailbox(mailbox).receivers.iter().filter(|&&r| r == number).count(), 1);
+                    assert_eq!(
+                        self.mailbox(mailbox)
+                            .receivers
+                            .iter()
+                            .filter(|&&r| r == number)
+                            .count(),
+                        1
+                    );
                 }
                 State::Sending { mailbox, message } => {
                     let mut queue = self.mailbox(mailbox).queue.iter();
-                    assert!(queue.any(|queued| queued.message == message && queued.sender == Some(number)));
+                    assert!(queue
+                        .any(|queued| queued.message == message && queued.sender == Some(number)));
                 }
                 _ => {}
             }
@@ -675,20 +809,33 @@ impl Kernel {
         assert_eq!(self.ready.last(), Some(&IDLE));
         let mut standing = self.ready.clone();
         standing.sort();
-        let ready = |(&number, task): (&u8, &Task)| matches!(task.state, State::Ready { .. }).then_some(number);
-        assert_eq!(standing, self.tasks.iter().filter_map(ready).collect::<Vec<u8>>());
+        let ready = |(&number, task): (&u8, &Task)| {
+            matches!(task.state, State::Ready { .. }).then_some(number)
+        };
+        assert_eq!(
+            standing,
+            self.tasks.iter().filter_map(ready).collect::<Vec<u8>>()
+        );
         for pair in self.ready[..self.ready.len() - 1].windows(2) {
-            assert!(!self.order.goes_before(self.task(pair[1]), self.task(pair[0])));
+            assert!(!self
+                .order
+                .goes_before(self.task(pair[1]), self.task(pair[0])));
         }
     }
 
     /// The store holds what is queued or due, and nothing else.
     fn audit_store(&self) {
-        let queued = self.mailboxes.values().flat_map(|mailbox| mailbox.queue.iter().map(|q| q.message));
-        let due = self.tasks.keys().filter_map(|&number| match self.due(number) {
-            Some(Due::Delivery { message }) => Some(message),
-            _ => None,
-        });
+        let queued = self
+            .mailboxes
+            .values()
+            .flat_map(|mailbox| mailbox.queue.iter().map(|q| q.message));
+        let due = self
+            .tasks
+            .keys()
+            .filter_map(|&number| match self.due(number) {
+                Some(Due::Delivery { message }) => Some(message),
+                _ => None,
+            });
         let mut expected: Vec<u32> = queued.chain(due).collect();
         expected.sort();
         assert_eq!(expected, self.store.numbers().collect::<Vec<u32>>());

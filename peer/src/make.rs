@@ -67,7 +67,11 @@ impl Maker {
             closes: random.one_in(8),
             random,
             stage: Stage::BeforeKernel,
-            opening: Call::Kernel { store, order, first },
+            opening: Call::Kernel {
+                store,
+                order,
+                first,
+            },
             lines_left: lines,
             phase: Phase::Populate,
             phase_left: 20,
@@ -89,14 +93,22 @@ impl Maker {
 fn first_number(seed: u64, lines: u64, kind: Kind) -> u32 {
     let mut random = Random::new(!seed);
     let long = lines >= 2000;
-    let way = if long { 4 } else { random.weighted(&[2, 1, 2, 1, 2]) };
+    let way = if long {
+        4
+    } else {
+        random.weighted(&[2, 1, 2, 1, 2])
+    };
     match way {
         0 => TOP - random.below(40),
         1 => random.below(2),
         2 => (1 << random.one_of(&[8, 16, 24, 31])) - random.below(40),
         3 => random.word(),
         _ => {
-            let percent = if long { random.between(5, 12) } else { random.between(5, 60) };
+            let percent = if long {
+                random.between(5, 12)
+            } else {
+                random.between(5, 60)
+            };
             let lines_without_numbers = (lines * u64::from(percent) / 100).min(10_000);
             let accepted = rehearse(seed, lines, kind, lines - lines_without_numbers);
             // So many sends use the numbers from this one to TOP.
@@ -111,7 +123,10 @@ fn rehearse(seed: u64, lines: u64, kind: Kind, first_lines: u64) -> u64 {
     for _ in 0..first_lines {
         maker.next();
     }
-    maker.stage.kernel().map_or(0, |kernel| kernel.counts().accepted)
+    maker
+        .stage
+        .kernel()
+        .map_or(0, |kernel| kernel.counts().accepted)
 }
 
 impl Iterator for Maker {
@@ -143,7 +158,17 @@ impl Maker {
 
     /// A line without a call.
     fn passed_over(&mut self) -> String {
-        let lines = ["", "# tick", "#", "#close now", " ", "\t", "\r", " \t # 1 2 3 \r", "## run"];
+        let lines = [
+            "",
+            "# tick",
+            "#",
+            "#close now",
+            " ",
+            "\t",
+            "\r",
+            " \t # 1 2 3 \r",
+            "## run",
+        ];
         self.random.one_of(&lines).to_string()
     }
 
@@ -159,7 +184,10 @@ impl Maker {
             let numbers = if is_send { 1 } else { words.len() };
             for word in words.iter_mut().take(numbers) {
                 if word.bytes().all(|character| character.is_ascii_digit()) {
-                    word.insert_str(0, self.random.one_of(&["0", "00", "0000000000000000000000"]));
+                    word.insert_str(
+                        0,
+                        self.random.one_of(&["0", "00", "0000000000000000000000"]),
+                    );
                 }
             }
         }
@@ -175,7 +203,13 @@ impl Maker {
         if self.random.one_in(2) {
             return hex.to_ascii_uppercase();
         }
-        let mut either = |digit: char| if self.random.one_in(2) { digit.to_ascii_uppercase() } else { digit };
+        let mut either = |digit: char| {
+            if self.random.one_in(2) {
+                digit.to_ascii_uppercase()
+            } else {
+                digit
+            }
+        };
         hex.chars().map(&mut either).collect()
     }
 
@@ -275,7 +309,11 @@ impl Maker {
     fn towards_wished_mailboxes(&mut self) -> Option<Call> {
         let mailboxes = self.kernel().mailboxes().len();
         let all = self.phase == Phase::Populate || self.wished_mailboxes == 32;
-        let wished = if all { self.wished_mailboxes } else { self.wished_mailboxes / 2 };
+        let wished = if all {
+            self.wished_mailboxes
+        } else {
+            self.wished_mailboxes / 2
+        };
         if mailboxes < wished && self.random.percent(15) {
             return Some(self.create_mailbox());
         }
@@ -293,7 +331,9 @@ impl Maker {
 
     fn away_from_the_top(&mut self) -> Option<Call> {
         let late = self.kernel().ticks() >= TOP - 1;
-        (late && self.random.percent(10)).then(|| Call::SetTicks { n: self.random.below(100) })
+        (late && self.random.percent(10)).then(|| Call::SetTicks {
+            n: self.random.below(100),
+        })
     }
 
     fn towards_the_last_units(&mut self) -> Option<Call> {
@@ -316,7 +356,9 @@ impl Maker {
 
     /// Whether message numbers are left, but fewer than so many.
     fn few_numbers(&self, many: u32) -> bool {
-        self.kernel().next_message().is_some_and(|next| next > TOP - many)
+        self.kernel()
+            .next_message()
+            .is_some_and(|next| next > TOP - many)
     }
 
     fn weighted_call(&mut self, weights: &[u32; 16]) -> Call {
@@ -395,18 +437,28 @@ impl Maker {
             Phase::Teardown => &[Phase::Populate],
             Phase::Drain | Phase::Clockwork | Phase::Chaos => &PHASES,
         };
-        self.phase = if self.random.percent(70) { self.random.one_of(usual) } else { self.random.one_of(&PHASES) };
+        self.phase = if self.random.percent(70) {
+            self.random.one_of(usual)
+        } else {
+            self.random.one_of(&PHASES)
+        };
         self.phase_left = self.random.between(10, self.longest_phase);
         self.draw_wishes();
     }
 
     fn draw_wishes(&mut self) {
         if self.random.one_in(2) {
-            self.wished_tasks = self.random.one_of(&[0, 1, 2, 2, 3, 4, 6, 8, 12, 20, 30, 45, 63, 63, 63]);
+            self.wished_tasks = self
+                .random
+                .one_of(&[0, 1, 2, 2, 3, 4, 6, 8, 12, 20, 30, 45, 63, 63, 63]);
         }
         self.wished_mailboxes = self.random.one_of(&[1, 2, 4, 6, 8, 12, 20, 32]);
         let fills = matches!(self.phase, Phase::Fill | Phase::Crowd) || self.random.one_in(4);
-        self.wished_messages = if fills { 300 } else { self.random.one_of(&[0, 1, 2, 5, 10, 20, 50]) };
+        self.wished_messages = if fills {
+            300
+        } else {
+            self.random.one_of(&[0, 1, 2, 5, 10, 20, 50])
+        };
     }
 
     /// The move chosen, or another one where it would not lead far.
@@ -435,10 +487,19 @@ impl Maker {
             Move::SendNoWait => self.send(Mode::NoWait),
             Move::ReceiveWait => self.receive(Mode::Wait),
             Move::ReceiveNoWait => self.receive(Mode::NoWait),
-            Move::Wait => Call::Wait { n: self.time_to_wait() },
-            Move::SetDeadline => Call::SetDeadline { n: self.some_deadline() },
-            Move::SetTicks => Call::SetTicks { n: self.some_tick() },
-            Move::Look => self.random.one_of(&[&Call::Ticks, &Call::Deadline, &Call::Running]).clone(),
+            Move::Wait => Call::Wait {
+                n: self.time_to_wait(),
+            },
+            Move::SetDeadline => Call::SetDeadline {
+                n: self.some_deadline(),
+            },
+            Move::SetTicks => Call::SetTicks {
+                n: self.some_tick(),
+            },
+            Move::Look => self
+                .random
+                .one_of(&[&Call::Ticks, &Call::Deadline, &Call::Running])
+                .clone(),
             Move::Tick => Call::Tick,
             Move::Collect => self.collect(None),
             Move::Scene => self.scene(),
@@ -454,7 +515,9 @@ mod tests {
     use crate::script::replay;
 
     fn script(seed: u64, lines: u64) -> String {
-        Maker::new(seed, lines, kind_of_seed(seed)).map(|line| line + "\n").collect()
+        Maker::new(seed, lines, kind_of_seed(seed))
+            .map(|line| line + "\n")
+            .collect()
     }
 
     #[test]
@@ -490,7 +553,9 @@ mod tests {
 
     #[test]
     fn some_scripts_end_with_close() {
-        let closing = (0..100).filter(|&seed| script(seed, 50).ends_with("close\n")).count();
+        let closing = (0..100)
+            .filter(|&seed| script(seed, 50).ends_with("close\n"))
+            .count();
         assert!((3..30).contains(&closing));
     }
 }

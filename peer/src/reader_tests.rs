@@ -22,7 +22,8 @@ fn error_behind(lines: &str, bad: &str) -> String {
     let number = lines.lines().count() + 1;
     let error = error.unwrap_or_else(|| panic!("`{bad}` is taken"));
     let text = error.strip_prefix(&format!("error: line {number}: "));
-    text.unwrap_or_else(|| panic!("`{error}` has another number than {number}")).to_string()
+    text.unwrap_or_else(|| panic!("`{error}` has another number than {number}"))
+        .to_string()
 }
 
 const START: &str = "kernel slot deadline 7\n";
@@ -76,7 +77,10 @@ fn words_are_as_read_and_joined_by_single_blanks() {
 fn bytes_may_be_absent_and_upper_case_reads_as_lower_case() {
     let script = "create_mailbox 3 1 2\nsend_no_wait 3\nsend_no_wait 3 aBCd\nreceive_no_wait 3 3\n";
     assert_eq!(
-        answers(&format!("{RUN}{script}")).lines().skip(3).collect::<Vec<_>>(),
+        answers(&format!("{RUN}{script}"))
+            .lines()
+            .skip(3)
+            .collect::<Vec<_>>(),
         [
             "send_no_wait 3 -> refused 10 WRONG_SIZE layer=mailbox place=3",
             "send_no_wait 3 aBCd -> OK message=7",
@@ -89,7 +93,10 @@ fn bytes_may_be_absent_and_upper_case_reads_as_lower_case() {
 fn a_buffer_is_printed_only_where_a_message_is_brought() {
     let script = "create_task 1 9 0\nwait 0\ntick\ncollect 4\ncollect 4\ncreate_mailbox 3 1 2\nreceive_no_wait 3 4\n";
     assert_eq!(
-        answers(&format!("{RUN}{script}")).lines().skip(5).collect::<Vec<_>>(),
+        answers(&format!("{RUN}{script}"))
+            .lines()
+            .skip(5)
+            .collect::<Vec<_>>(),
         [
             "collect 4 -> OK",
             "collect 4 -> refused 2 NOTHING_DUE layer=kernel place=1",
@@ -108,7 +115,10 @@ fn an_error_ends_the_program_and_lines_passed_over_count() {
 
 #[test]
 fn no_call() {
-    assert_eq!(error_behind("", "Kernel slot deadline 7"), "no call `Kernel`");
+    assert_eq!(
+        error_behind("", "Kernel slot deadline 7"),
+        "no call `Kernel`"
+    );
     assert_eq!(error_behind(RUN, "tick# 1"), "no call `tick#`");
     assert_eq!(error_behind(CLOSED, "init_kernel"), "no call `init_kernel`");
     assert_eq!(error_behind(RUN, "tick\u{b}"), "no call `tick\u{b}`");
@@ -158,15 +168,27 @@ fn calls_of_another_stage() {
         }
         assert_eq!(error_behind(CLOSED, &bad), format!("{call} after close"));
     }
-    assert_eq!(error_behind(RUN, "kernel slot deadline 7"), "kernel after kernel");
+    assert_eq!(
+        error_behind(RUN, "kernel slot deadline 7"),
+        "kernel after kernel"
+    );
     assert_eq!(error_behind(RUN, "run"), "run after run");
 }
 
 #[test]
 fn too_many_words_or_too_few() {
-    assert_eq!(error_behind("", "kernel slot deadline"), "kernel takes 3 arguments, not 2");
-    assert_eq!(error_behind("", "kernel"), "kernel takes 3 arguments, not 0");
-    assert_eq!(error_behind("", "kernel a b c d"), "kernel takes 3 arguments, not 4");
+    assert_eq!(
+        error_behind("", "kernel slot deadline"),
+        "kernel takes 3 arguments, not 2"
+    );
+    assert_eq!(
+        error_behind("", "kernel"),
+        "kernel takes 3 arguments, not 0"
+    );
+    assert_eq!(
+        error_behind("", "kernel a b c d"),
+        "kernel takes 3 arguments, not 4"
+    );
     assert_eq!(error_behind(START, "run 1"), "run takes 0 arguments, not 1");
     for (call, takes, fewest, most) in [
         ("create_task", "3 arguments", 3, 3),
@@ -190,10 +212,16 @@ fn too_many_words_or_too_few() {
         // The words are wrong ones, but their number is looked at first.
         let line = |words: usize| format!("{call}{}", " x".repeat(words));
         let more = most + 1;
-        assert_eq!(error_behind(RUN, &line(more)), format!("{call} takes {takes}, not {more}"));
+        assert_eq!(
+            error_behind(RUN, &line(more)),
+            format!("{call} takes {takes}, not {more}")
+        );
         if fewest > 0 {
             let fewer = fewest - 1;
-            assert_eq!(error_behind(RUN, &line(fewer)), format!("{call} takes {takes}, not {fewer}"));
+            assert_eq!(
+                error_behind(RUN, &line(fewer)),
+                format!("{call} takes {takes}, not {fewer}")
+            );
         }
     }
 }
@@ -204,8 +232,14 @@ fn not_a_number(name: &str, max: &str, word: &str) -> String {
 
 #[test]
 fn the_arguments_of_kernel() {
-    assert_eq!(error_behind("", "kernel Slot x y"), "STORE is not slot or packed: `Slot`");
-    assert_eq!(error_behind("", "kernel packed levels y"), "ORDER is not deadline or level: `levels`");
+    assert_eq!(
+        error_behind("", "kernel Slot x y"),
+        "STORE is not slot or packed: `Slot`"
+    );
+    assert_eq!(
+        error_behind("", "kernel packed levels y"),
+        "ORDER is not deadline or level: `levels`"
+    );
     let expected = not_a_number("FIRST", "4294967295", "4294967296");
     assert_eq!(error_behind("", "kernel packed level 4294967296"), expected);
 }
@@ -234,9 +268,22 @@ fn arguments_that_are_no_numbers_of_their_range() {
         ("set_ticks ?", "N", TOP),
     ] {
         let above = (max.parse::<u64>().unwrap() + 1).to_string();
-        let words = [&above[..], "x", "-1", "+1", "1a", "0x1", "1.0", "99999999999999999999999999", "\u{664}"];
+        let words = [
+            &above[..],
+            "x",
+            "-1",
+            "+1",
+            "1a",
+            "0x1",
+            "1.0",
+            "99999999999999999999999999",
+            "\u{664}",
+        ];
         for word in words {
-            assert_eq!(error_behind(RUN, &line.replace('?', word)), not_a_number(name, max, word));
+            assert_eq!(
+                error_behind(RUN, &line.replace('?', word)),
+                not_a_number(name, max, word)
+            );
         }
         // The largest one is taken, leading zeros too.
         for word in [max.to_string(), format!("000000000000000000000000{max}")] {
@@ -247,14 +294,32 @@ fn arguments_that_are_no_numbers_of_their_range() {
 
 #[test]
 fn arguments_are_looked_at_from_the_left() {
-    assert_eq!(error_behind(RUN, "create_task 1 x y"), not_a_number("DEADLINE", "4294967295", "x"));
-    assert_eq!(error_behind(RUN, "create_mailbox 256 x y"), not_a_number("NUMBER", "255", "256"));
-    assert_eq!(error_behind(RUN, "send_wait 256 x"), not_a_number("NUMBER", "255", "256"));
+    assert_eq!(
+        error_behind(RUN, "create_task 1 x y"),
+        not_a_number("DEADLINE", "4294967295", "x")
+    );
+    assert_eq!(
+        error_behind(RUN, "create_mailbox 256 x y"),
+        not_a_number("NUMBER", "255", "256")
+    );
+    assert_eq!(
+        error_behind(RUN, "send_wait 256 x"),
+        not_a_number("NUMBER", "255", "256")
+    );
 }
 
 #[test]
 fn bytes_that_are_not_pairs_of_hexadecimal_digits() {
-    for word in ["0", "012", "0g", "0x", "-1", "zz", "0102#", "\u{ff10}\u{ff10}"] {
+    for word in [
+        "0",
+        "012",
+        "0g",
+        "0x",
+        "-1",
+        "zz",
+        "0102#",
+        "\u{ff10}\u{ff10}",
+    ] {
         for call in ["send_wait", "send_no_wait"] {
             let expected = format!("HEX is not pairs of hexadecimal digits: `{word}`");
             assert_eq!(error_behind(RUN, &format!("{call} 3 {word}")), expected);

@@ -12,20 +12,54 @@ pub const LONGEST_BUFFER: u32 = 1024;
 
 #[derive(Clone, Debug, PartialEq, Eq)]
 pub enum Call {
-    Kernel { store: StoreKind, order: Order, first: u32 },
-    CreateTask { number: u8, deadline: u32, level: u8 },
-    CreateMailbox { number: u8, capacity: u8, size: u8 },
+    Kernel {
+        store: StoreKind,
+        order: Order,
+        first: u32,
+    },
+    CreateTask {
+        number: u8,
+        deadline: u32,
+        level: u8,
+    },
+    CreateMailbox {
+        number: u8,
+        capacity: u8,
+        size: u8,
+    },
     Run,
     Terminate,
-    RemoveMailbox { number: u8 },
-    SendWait { number: u8, bytes: Vec<u8> },
-    SendNoWait { number: u8, bytes: Vec<u8> },
-    ReceiveWait { number: u8, length: u32 },
-    ReceiveNoWait { number: u8, length: u32 },
-    Wait { n: u32 },
-    Collect { length: u32 },
-    SetDeadline { n: u32 },
-    SetTicks { n: u32 },
+    RemoveMailbox {
+        number: u8,
+    },
+    SendWait {
+        number: u8,
+        bytes: Vec<u8>,
+    },
+    SendNoWait {
+        number: u8,
+        bytes: Vec<u8>,
+    },
+    ReceiveWait {
+        number: u8,
+        length: u32,
+    },
+    ReceiveNoWait {
+        number: u8,
+        length: u32,
+    },
+    Wait {
+        n: u32,
+    },
+    Collect {
+        length: u32,
+    },
+    SetDeadline {
+        n: u32,
+    },
+    SetTicks {
+        n: u32,
+    },
     Ticks,
     Deadline,
     Running,
@@ -59,14 +93,35 @@ const CALLS: [(&str, usize, usize); 19] = [
 /// What is wrong with a line. Words are bytes, as a script may hold any.
 #[derive(Clone, Debug, PartialEq, Eq)]
 pub enum Fault {
-    NoCall { word: Vec<u8> },
+    NoCall {
+        word: Vec<u8>,
+    },
     /// The call comes `before` or `after` another one that it may not come before or after.
-    WrongStage { call: &'static str, side: &'static str, other: &'static str },
-    WrongCount { call: &'static str, fewest: usize, most: usize, given: usize },
-    NotANumber { name: &'static str, max: u32, word: Vec<u8> },
-    NotHex { word: Vec<u8> },
-    NotAStore { word: Vec<u8> },
-    NotAnOrder { word: Vec<u8> },
+    WrongStage {
+        call: &'static str,
+        side: &'static str,
+        other: &'static str,
+    },
+    WrongCount {
+        call: &'static str,
+        fewest: usize,
+        most: usize,
+        given: usize,
+    },
+    NotANumber {
+        name: &'static str,
+        max: u32,
+        word: Vec<u8>,
+    },
+    NotHex {
+        word: Vec<u8>,
+    },
+    NotAStore {
+        word: Vec<u8>,
+    },
+    NotAnOrder {
+        word: Vec<u8>,
+    },
 }
 
 impl Fault {
@@ -75,16 +130,25 @@ impl Fault {
         let quoted = |before: String, word: &[u8]| [before.as_bytes(), b" `", word, b"`"].concat();
         match self {
             Fault::NoCall { word } => quoted("no call".to_string(), word),
-            Fault::WrongStage { call, side, other } => format!("{call} {side} {other}").into_bytes(),
-            Fault::WrongCount { call, fewest, most, given } => {
-                format!("{call} takes {}, not {given}", arguments(*fewest, *most)).into_bytes()
+            Fault::WrongStage { call, side, other } => {
+                format!("{call} {side} {other}").into_bytes()
             }
+            Fault::WrongCount {
+                call,
+                fewest,
+                most,
+                given,
+            } => format!("{call} takes {}, not {given}", arguments(*fewest, *most)).into_bytes(),
             Fault::NotANumber { name, max, word } => {
                 quoted(format!("{name} is not a number from 0 to {max}:"), word)
             }
-            Fault::NotHex { word } => quoted("HEX is not pairs of hexadecimal digits:".to_string(), word),
+            Fault::NotHex { word } => {
+                quoted("HEX is not pairs of hexadecimal digits:".to_string(), word)
+            }
             Fault::NotAStore { word } => quoted("STORE is not slot or packed:".to_string(), word),
-            Fault::NotAnOrder { word } => quoted("ORDER is not deadline or level:".to_string(), word),
+            Fault::NotAnOrder { word } => {
+                quoted("ORDER is not deadline or level:".to_string(), word)
+            }
         }
     }
 }
@@ -104,10 +168,17 @@ pub fn read_call(words: &[&[u8]], stage: &Stage) -> Result<Call, Fault> {
     let (call, fewest, most) = *CALLS
         .iter()
         .find(|(call, _, _)| call.as_bytes() == word)
-        .ok_or_else(|| Fault::NoCall { word: word.to_vec() })?;
+        .ok_or_else(|| Fault::NoCall {
+            word: word.to_vec(),
+        })?;
     stage.admits(call)?;
     if given < fewest || given > most {
-        return Err(Fault::WrongCount { call, fewest, most, given });
+        return Err(Fault::WrongCount {
+            call,
+            fewest,
+            most,
+            given,
+        });
     }
     read_arguments(call, &words[1..])
 }
@@ -138,12 +209,26 @@ fn read_arguments(call: &'static str, words: &[&[u8]]) -> Result<Call, Fault> {
         "run" => Call::Run,
         "terminate" => Call::Terminate,
         "remove_mailbox" => Call::RemoveMailbox { number: number()? },
-        "send_wait" => Call::SendWait { number: number()?, bytes: bytes()? },
-        "send_no_wait" => Call::SendNoWait { number: number()?, bytes: bytes()? },
-        "receive_wait" => Call::ReceiveWait { number: number()?, length: length(words[1])? },
-        "receive_no_wait" => Call::ReceiveNoWait { number: number()?, length: length(words[1])? },
+        "send_wait" => Call::SendWait {
+            number: number()?,
+            bytes: bytes()?,
+        },
+        "send_no_wait" => Call::SendNoWait {
+            number: number()?,
+            bytes: bytes()?,
+        },
+        "receive_wait" => Call::ReceiveWait {
+            number: number()?,
+            length: length(words[1])?,
+        },
+        "receive_no_wait" => Call::ReceiveNoWait {
+            number: number()?,
+            length: length(words[1])?,
+        },
         "wait" => Call::Wait { n: n()? },
-        "collect" => Call::Collect { length: length(words[0])? },
+        "collect" => Call::Collect {
+            length: length(words[0])?,
+        },
         "set_deadline" => Call::SetDeadline { n: n()? },
         "set_ticks" => Call::SetTicks { n: n()? },
         "ticks" => Call::Ticks,
@@ -177,7 +262,11 @@ fn decimal(name: &'static str, max: u32, word: &[u8]) -> Result<u32, Fault> {
     if good {
         Ok(value as u32)
     } else {
-        Err(Fault::NotANumber { name, max, word: word.to_vec() })
+        Err(Fault::NotANumber {
+            name,
+            max,
+            word: word.to_vec(),
+        })
     }
 }
 
@@ -185,10 +274,13 @@ fn hex(word: &[u8]) -> Result<Vec<u8>, Fault> {
     let digit = |&character: &u8| (character as char).to_digit(16).map(|value| value as u8);
     let digits: Option<Vec<u8>> = word.iter().map(digit).collect();
     match digits {
-        Some(digits) if digits.len() % 2 == 0 => {
-            Ok(digits.chunks_exact(2).map(|pair| pair[0] * 16 + pair[1]).collect())
-        }
-        _ => Err(Fault::NotHex { word: word.to_vec() }),
+        Some(digits) if digits.len() % 2 == 0 => Ok(digits
+            .chunks_exact(2)
+            .map(|pair| pair[0] * 16 + pair[1])
+            .collect()),
+        _ => Err(Fault::NotHex {
+            word: word.to_vec(),
+        }),
     }
 }
 
@@ -196,7 +288,9 @@ fn store_kind(word: &[u8]) -> Result<StoreKind, Fault> {
     match word {
         b"slot" => Ok(StoreKind::Slot),
         b"packed" => Ok(StoreKind::Packed),
-        _ => Err(Fault::NotAStore { word: word.to_vec() }),
+        _ => Err(Fault::NotAStore {
+            word: word.to_vec(),
+        }),
     }
 }
 
@@ -204,13 +298,18 @@ fn order(word: &[u8]) -> Result<Order, Fault> {
     match word {
         b"deadline" => Ok(Order::Deadline),
         b"level" => Ok(Order::Level),
-        _ => Err(Fault::NotAnOrder { word: word.to_vec() }),
+        _ => Err(Fault::NotAnOrder {
+            word: word.to_vec(),
+        }),
     }
 }
 
 /// A kind of kernel, by the words of its store and its order.
 pub fn kind(store_word: &str, order_word: &str) -> Option<(StoreKind, Order)> {
-    Some((store_kind(store_word.as_bytes()).ok()?, order(order_word.as_bytes()).ok()?))
+    Some((
+        store_kind(store_word.as_bytes()).ok()?,
+        order(order_word.as_bytes()).ok()?,
+    ))
 }
 
 impl Call {
@@ -242,13 +341,29 @@ impl Call {
     /// The words of the call's arguments, as a script has them.
     pub fn arguments(&self) -> Vec<String> {
         match self {
-            Call::Kernel { store, order, first } => {
-                vec![store_word(*store).into(), order_word(*order).into(), first.to_string()]
+            Call::Kernel {
+                store,
+                order,
+                first,
+            } => {
+                vec![
+                    store_word(*store).into(),
+                    order_word(*order).into(),
+                    first.to_string(),
+                ]
             }
-            Call::CreateTask { number, deadline, level } => {
+            Call::CreateTask {
+                number,
+                deadline,
+                level,
+            } => {
                 vec![number.to_string(), deadline.to_string(), level.to_string()]
             }
-            Call::CreateMailbox { number, capacity, size } => {
+            Call::CreateMailbox {
+                number,
+                capacity,
+                size,
+            } => {
                 vec![number.to_string(), capacity.to_string(), size.to_string()]
             }
             Call::RemoveMailbox { number } => vec![number.to_string()],
@@ -262,7 +377,9 @@ impl Call {
             Call::ReceiveWait { number, length } | Call::ReceiveNoWait { number, length } => {
                 vec![number.to_string(), length.to_string()]
             }
-            Call::Wait { n } | Call::SetDeadline { n } | Call::SetTicks { n } => vec![n.to_string()],
+            Call::Wait { n } | Call::SetDeadline { n } | Call::SetTicks { n } => {
+                vec![n.to_string()]
+            }
             Call::Collect { length } => vec![length.to_string()],
             Call::Run | Call::Terminate | Call::Ticks | Call::Deadline => vec![],
             Call::Running | Call::Tick | Call::Close => vec![],
@@ -288,7 +405,10 @@ fn order_word(order: Order) -> &'static str {
 pub fn hex_text(bytes: &[u8]) -> String {
     const DIGITS: &[u8; 16] = b"0123456789abcdef";
     let digit = |value: u8| DIGITS[usize::from(value)] as char;
-    bytes.iter().flat_map(|byte| [digit(byte >> 4), digit(byte & 15)]).collect()
+    bytes
+        .iter()
+        .flat_map(|byte| [digit(byte >> 4), digit(byte & 15)])
+        .collect()
 }
 
 /// What a call of a script answers.
@@ -302,7 +422,10 @@ pub enum Outcome {
     Refused(Refusal),
     /// Of `ticks`, `deadline` and `running`.
     Number(u32),
-    Ticked { readied: usize, running: u8 },
+    Ticked {
+        readied: usize,
+        running: u8,
+    },
     Closed(Counts),
 }
 
@@ -314,7 +437,9 @@ impl fmt::Display for Outcome {
             Outcome::Brought(answer, buffer) => write!(f, "{answer} buffer={}", hex_text(buffer)),
             Outcome::Refused(refusal) => write!(f, "{refusal}"),
             Outcome::Number(number) => write!(f, "{number}"),
-            Outcome::Ticked { readied, running } => write!(f, "readied={readied} running={running}"),
+            Outcome::Ticked { readied, running } => {
+                write!(f, "readied={readied} running={running}")
+            }
             Outcome::Closed(counts) => write!(f, "{counts}"),
         }
     }
@@ -348,7 +473,14 @@ impl Stage {
     /// Plays a call that may come now.
     pub fn play(&mut self, call: &Call) -> Outcome {
         match (call, &mut *self) {
-            (&Call::Kernel { store, order, first }, _) => {
+            (
+                &Call::Kernel {
+                    store,
+                    order,
+                    first,
+                },
+                _,
+            ) => {
                 *self = Stage::StartUp(init_kernel(Store::new(store), order, first));
                 Outcome::Done
             }
@@ -383,22 +515,42 @@ impl Stage {
 
 fn play_on_start_up(start: &mut StartUp, call: &Call) -> Outcome {
     match *call {
-        Call::CreateTask { number, deadline, level } => plain(start.create_task(number, deadline, level)),
-        Call::CreateMailbox { number, capacity, size } => plain(start.create_mailbox(number, capacity, size)),
+        Call::CreateTask {
+            number,
+            deadline,
+            level,
+        } => plain(start.create_task(number, deadline, level)),
+        Call::CreateMailbox {
+            number,
+            capacity,
+            size,
+        } => plain(start.create_mailbox(number, capacity, size)),
         _ => panic!("{} is no call of the start-up stage", call.name()),
     }
 }
 
 fn play_on_kernel(kernel: &mut Kernel, call: &Call) -> Outcome {
     match *call {
-        Call::CreateTask { number, deadline, level } => plain(kernel.create_task(number, deadline, level)),
-        Call::CreateMailbox { number, capacity, size } => plain(kernel.create_mailbox(number, capacity, size)),
+        Call::CreateTask {
+            number,
+            deadline,
+            level,
+        } => plain(kernel.create_task(number, deadline, level)),
+        Call::CreateMailbox {
+            number,
+            capacity,
+            size,
+        } => plain(kernel.create_mailbox(number, capacity, size)),
         Call::Terminate => plain(kernel.terminate()),
         Call::RemoveMailbox { number } => plain(kernel.remove_mailbox(number)),
         Call::SendWait { number, ref bytes } => plain(kernel.send_wait(number, bytes)),
         Call::SendNoWait { number, ref bytes } => plain(kernel.send_no_wait(number, bytes)),
-        Call::ReceiveWait { number, length } => lent(length, |buffer| kernel.receive_wait(number, buffer)),
-        Call::ReceiveNoWait { number, length } => lent(length, |buffer| kernel.receive_no_wait(number, buffer)),
+        Call::ReceiveWait { number, length } => {
+            lent(length, |buffer| kernel.receive_wait(number, buffer))
+        }
+        Call::ReceiveNoWait { number, length } => {
+            lent(length, |buffer| kernel.receive_no_wait(number, buffer))
+        }
         Call::Collect { length } => lent(length, |buffer| kernel.collect(buffer)),
         Call::Wait { n } => plain(kernel.wait(n)),
         Call::SetDeadline { n } => plain(kernel.set_deadline(n)),
@@ -410,7 +562,9 @@ fn play_on_kernel(kernel: &mut Kernel, call: &Call) -> Outcome {
             let (readied, running) = kernel.tick();
             Outcome::Ticked { readied, running }
         }
-        Call::Kernel { .. } | Call::Run | Call::Close => panic!("{} changes the stage", call.name()),
+        Call::Kernel { .. } | Call::Run | Call::Close => {
+            panic!("{} changes the stage", call.name())
+        }
     }
 }
 
@@ -473,10 +627,15 @@ pub fn replay(mut script: impl BufRead, mut answers: impl Write) -> Result<(), S
         let played = play_line(&line, &mut stage);
         match played {
             Ok(None) => {}
-            Ok(Some((words, outcome))) => write_answer(&mut answers, &words, &outcome).map_err(Stop::Output)?,
+            Ok(Some((words, outcome))) => {
+                write_answer(&mut answers, &words, &outcome).map_err(Stop::Output)?
+            }
             Err(fault) => {
                 answers.flush().map_err(Stop::Output)?;
-                return Err(Stop::BadLine { line: number, fault });
+                return Err(Stop::BadLine {
+                    line: number,
+                    fault,
+                });
             }
         }
     }

@@ -35,11 +35,23 @@ impl StoreKind {
 /// Why a store refuses a call. The field `message` is the number that the call was about.
 #[derive(Clone, Copy, Debug, PartialEq, Eq)]
 pub enum StoreFault {
-    BadLength { message: u32 },
-    Held { message: u32 },
-    NotHeld { message: u32 },
-    StoreFull { message: u32, wanted: u32, free: u32 },
-    Cramped { message: u32 },
+    BadLength {
+        message: u32,
+    },
+    Held {
+        message: u32,
+    },
+    NotHeld {
+        message: u32,
+    },
+    StoreFull {
+        message: u32,
+        wanted: u32,
+        free: u32,
+    },
+    Cramped {
+        message: u32,
+    },
 }
 
 impl StoreFault {
@@ -79,14 +91,23 @@ impl StoreFault {
     }
 }
 
+/// The printed form of every refusal: number, name, layer and place, and the units where they are told.
+pub fn print_refusal(
+    f: &mut fmt::Formatter,
+    (number, name, layer, place): (u8, &str, &str, u32),
+    units: Option<(u32, u32)>,
+) -> fmt::Result {
+    write!(f, "refused {number} {name} layer={layer} place={place}")?;
+    match units {
+        Some((wanted, free)) => write!(f, " wanted={wanted} free={free}"),
+        None => Ok(()),
+    }
+}
+
 impl fmt::Display for StoreFault {
     fn fmt(&self, f: &mut fmt::Formatter) -> fmt::Result {
-        let (number, name, layer, place) = (self.number(), self.name(), self.layer(), self.place());
-        write!(f, "refused {number} {name} layer={layer} place={place}")?;
-        match self.units() {
-            Some((wanted, free)) => write!(f, " wanted={wanted} free={free}"),
-            None => Ok(()),
-        }
+        let row = (self.number(), self.name(), self.layer(), self.place());
+        print_refusal(f, row, self.units())
     }
 }
 
@@ -98,7 +119,10 @@ pub struct Store {
 
 impl Store {
     pub fn new(kind: StoreKind) -> Store {
-        Store { kind, held: BTreeMap::new() }
+        Store {
+            kind,
+            held: BTreeMap::new(),
+        }
     }
 
     /// Holds a copy of the bytes under the number.
@@ -119,15 +143,24 @@ impl Store {
         let wanted = self.kind.cost(length);
         let free = self.free() + freed;
         if wanted > free {
-            return Err(StoreFault::StoreFull { message, wanted, free });
+            return Err(StoreFault::StoreFull {
+                message,
+                wanted,
+                free,
+            });
         }
         Ok(())
     }
 
     /// Writes the held bytes to the front of the buffer, and answers how many they are.
     pub fn copy(&self, message: u32, buffer: &mut [u8]) -> Result<usize, StoreFault> {
-        let bytes = self.held.get(&message).ok_or(StoreFault::NotHeld { message })?;
-        let front = buffer.get_mut(..bytes.len()).ok_or(StoreFault::Cramped { message })?;
+        let bytes = self
+            .held
+            .get(&message)
+            .ok_or(StoreFault::NotHeld { message })?;
+        let front = buffer
+            .get_mut(..bytes.len())
+            .ok_or(StoreFault::Cramped { message })?;
         front.copy_from_slice(bytes);
         Ok(bytes.len())
     }
@@ -146,7 +179,10 @@ impl Store {
 
     /// The units in use. Counted anew each time, so that the sum cannot go stale.
     pub fn used(&self) -> u32 {
-        self.held.values().map(|bytes| self.kind.cost(bytes.len())).sum()
+        self.held
+            .values()
+            .map(|bytes| self.kind.cost(bytes.len()))
+            .sum()
     }
 
     pub fn free(&self) -> u32 {
@@ -188,7 +224,10 @@ mod tests {
             assert_eq!(store.used(), kind.cost(2));
             store.discard(9).unwrap();
             assert_eq!(store.used(), 0);
-            refused(store.copy(9, &mut buffer), "refused 19 NOT_HELD layer=store place=9");
+            refused(
+                store.copy(9, &mut buffer),
+                "refused 19 NOT_HELD layer=store place=9",
+            );
             assert_eq!(&buffer, b"hi..");
         }
     }
@@ -196,26 +235,54 @@ mod tests {
     #[test]
     fn the_five_refusals() {
         let mut store = Store::new(StoreKind::Slot);
-        refused(store.put(1, b""), "refused 17 BAD_LENGTH layer=store place=1");
-        refused(store.put(1, &[0; 129]), "refused 17 BAD_LENGTH layer=store place=1");
+        refused(
+            store.put(1, b""),
+            "refused 17 BAD_LENGTH layer=store place=1",
+        );
+        refused(
+            store.put(1, &[0; 129]),
+            "refused 17 BAD_LENGTH layer=store place=1",
+        );
         store.put(502, &[0; 128]).unwrap();
-        refused(store.put(502, b"x"), "refused 18 HELD layer=store place=502");
-        refused(store.put(502, b""), "refused 17 BAD_LENGTH layer=store place=502");
+        refused(
+            store.put(502, b"x"),
+            "refused 18 HELD layer=store place=502",
+        );
+        refused(
+            store.put(502, b""),
+            "refused 17 BAD_LENGTH layer=store place=502",
+        );
         refused(store.discard(4), "refused 19 NOT_HELD layer=store place=4");
         let mut short = [1; 127];
-        refused(store.copy(502, &mut short), "refused 21 CRAMPED layer=store place=502");
+        refused(
+            store.copy(502, &mut short),
+            "refused 21 CRAMPED layer=store place=502",
+        );
         assert_eq!(short, [1; 127]);
         for message in 1000..1063 {
             store.put(message, b"x").unwrap();
         }
-        refused(store.put(7, b"x"), "refused 20 STORE_FULL layer=store place=7 wanted=1 free=0");
-        refused(store.put(502, b"x"), "refused 18 HELD layer=store place=502");
+        refused(
+            store.put(7, b"x"),
+            "refused 20 STORE_FULL layer=store place=7 wanted=1 free=0",
+        );
+        refused(
+            store.put(502, b"x"),
+            "refused 18 HELD layer=store place=502",
+        );
     }
 
     #[test]
     fn what_a_fault_tells() {
-        let full = StoreFault::StoreFull { message: 7, wanted: 65, free: 64 };
-        assert_eq!((full.number(), full.name(), full.layer()), (20, "STORE_FULL", "store"));
+        let full = StoreFault::StoreFull {
+            message: 7,
+            wanted: 65,
+            free: 64,
+        };
+        assert_eq!(
+            (full.number(), full.name(), full.layer()),
+            (20, "STORE_FULL", "store")
+        );
         assert_eq!((full.place(), full.units()), (7, Some((65, 64))));
         assert_eq!(StoreFault::Held { message: 7 }.units(), None);
     }
@@ -227,9 +294,15 @@ mod tests {
             store.put(message, &[0; 128]).unwrap();
         }
         assert_eq!(store.used(), 4032);
-        refused(store.put(28, &[0; 49]), "refused 20 STORE_FULL layer=store place=28 wanted=65 free=64");
+        refused(
+            store.put(28, &[0; 49]),
+            "refused 20 STORE_FULL layer=store place=28 wanted=65 free=64",
+        );
         store.put(28, &[0; 48]).unwrap();
-        refused(store.put(29, &[0; 1]), "refused 20 STORE_FULL layer=store place=29 wanted=17 free=0");
+        refused(
+            store.put(29, &[0; 1]),
+            "refused 20 STORE_FULL layer=store place=29 wanted=17 free=0",
+        );
         store.discard(13).unwrap();
         store.put(29, &[0; 128]).unwrap();
         assert_eq!(store.free(), 0);

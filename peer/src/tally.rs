@@ -42,7 +42,13 @@ const FORMS: [(&str, &[&str]); 17] = [
     ("wait", &["BLOCKED"]),
     (
         "collect",
-        &["OK", "OK message", "OK message length", "DEADLINE_REACHED", "DEADLINE_REACHED message"],
+        &[
+            "OK",
+            "OK message",
+            "OK message length",
+            "DEADLINE_REACHED",
+            "DEADLINE_REACHED message",
+        ],
     ),
     ("set_deadline", &["OK"]),
     ("set_ticks", &["OK"]),
@@ -100,8 +106,24 @@ const BOTH_HOLD: [(&str, &[(u8, u8)]); 7] = [
             (16, 20),
         ],
     ),
-    ("receive_wait", &[(1, 4), (1, 8), (1, 11), (1, 14), (3, 4), (3, 8), (3, 11), (3, 14), (11, 14)]),
-    ("receive_no_wait", &[(1, 4), (1, 8), (1, 11), (1, 13), (11, 13)]),
+    (
+        "receive_wait",
+        &[
+            (1, 4),
+            (1, 8),
+            (1, 11),
+            (1, 14),
+            (3, 4),
+            (3, 8),
+            (3, 11),
+            (3, 14),
+            (11, 14),
+        ],
+    ),
+    (
+        "receive_no_wait",
+        &[(1, 4), (1, 8), (1, 11), (1, 13), (11, 13)],
+    ),
     ("wait", &[(1, 15), (3, 15)]),
 ];
 
@@ -121,7 +143,11 @@ fn rows_that_hold(kernel: &Kernel, call: &Call) -> Vec<u8> {
             add(5, level > 31);
             add(7, kernel.tasks().contains_key(&number));
         }
-        Call::CreateMailbox { number, capacity, size } => {
+        Call::CreateMailbox {
+            number,
+            capacity,
+            size,
+        } => {
             add(4, number > 31);
             add(6, capacity == 0 || capacity > 16 || size == 0 || size > 128);
             add(7, kernel.mailboxes().contains_key(&number));
@@ -135,7 +161,10 @@ fn rows_that_hold(kernel: &Kernel, call: &Call) -> Vec<u8> {
                 add(12, mailbox.mode() == Some(Mode::NoWait));
                 add(14, mailbox.queue.len() == mailbox.capacity);
                 add(16, kernel.next_message().is_none());
-                add(20, kernel.store().kind().cost(bytes.len()) > kernel.store().free());
+                add(
+                    20,
+                    kernel.store().kind().cost(bytes.len()) > kernel.store().free(),
+                );
             }
         }
         Call::SendNoWait { number, ref bytes } => {
@@ -146,7 +175,10 @@ fn rows_that_hold(kernel: &Kernel, call: &Call) -> Vec<u8> {
                 add(10, bytes.len() != mailbox.size);
                 add(12, mailbox.mode() == Some(Mode::Wait));
                 add(16, kernel.next_message().is_none());
-                add(20, !displaces && kernel.store().kind().cost(bytes.len()) > kernel.store().free());
+                add(
+                    20,
+                    !displaces && kernel.store().kind().cost(bytes.len()) > kernel.store().free(),
+                );
             }
         }
         Call::ReceiveWait { number, length } => {
@@ -168,7 +200,10 @@ fn rows_that_hold(kernel: &Kernel, call: &Call) -> Vec<u8> {
         }
         Call::Wait { n } => {
             add(3, idle);
-            add(15, u64::from(kernel.ticks()) + u64::from(n) > u64::from(TOP));
+            add(
+                15,
+                u64::from(kernel.ticks()) + u64::from(n) > u64::from(TOP),
+            );
         }
         _ => {}
     }
@@ -208,9 +243,16 @@ fn refused_form(row: u8) -> String {
 
 /// All that has to be met, by call and form.
 fn expected() -> BTreeSet<(String, String)> {
-    let refusals = ROWS.iter().flat_map(|(call, rows)| rows.iter().map(|row| (*call, refused_form(*row))));
-    let answers = FORMS.iter().flat_map(|(call, forms)| forms.iter().map(|form| (*call, form.to_string())));
-    refusals.chain(answers).map(|(call, form)| (call.to_string(), form)).collect()
+    let refusals = ROWS
+        .iter()
+        .flat_map(|(call, rows)| rows.iter().map(|row| (*call, refused_form(*row))));
+    let answers = FORMS
+        .iter()
+        .flat_map(|(call, forms)| forms.iter().map(|form| (*call, form.to_string())));
+    refusals
+        .chain(answers)
+        .map(|(call, form)| (call.to_string(), form))
+        .collect()
 }
 
 #[derive(Default)]
@@ -231,7 +273,10 @@ struct Uncollected {
 }
 
 fn tally(seed: u64) -> Tally {
-    let mut tally = Tally { deep: DEEP.iter().map(|&name| (name, 0)).collect(), ..Tally::default() };
+    let mut tally = Tally {
+        deep: DEEP.iter().map(|&name| (name, 0)).collect(),
+        ..Tally::default()
+    };
     let mut stage = Stage::BeforeKernel;
     for line in Maker::new(seed, LINES, kind_of_seed(seed)) {
         let before = stage.kernel().cloned();
@@ -306,35 +351,58 @@ impl Tally {
         }
     }
 
-    fn note_deep_states(&mut self, before: &Kernel, call: &Call, outcome: &Outcome, after: &Kernel) {
+    fn note_deep_states(
+        &mut self,
+        before: &Kernel,
+        call: &Call,
+        outcome: &Outcome,
+        after: &Kernel,
+    ) {
         self.note_state(after);
         self.note_rows(before, call, outcome);
         match *call {
-            Call::SendWait { number, ref bytes } => self.note_send(before, number, bytes, outcome, after),
-            Call::SendNoWait { number, ref bytes } => self.note_send(before, number, bytes, outcome, after),
+            Call::SendWait { number, ref bytes } => {
+                self.note_send(before, number, bytes, outcome, after)
+            }
+            Call::SendNoWait { number, ref bytes } => {
+                self.note_send(before, number, bytes, outcome, after)
+            }
             Call::ReceiveWait { number, .. } | Call::ReceiveNoWait { number, .. } => {
                 self.note_receive(before, number, outcome, after);
             }
             Call::CreateTask { number, .. } => self.note_new_task(before, number, outcome, after),
             Call::Terminate if accepted(outcome) => {
                 self.note(
-                    before.mailboxes().values().any(|mailbox| !mailbox.is_empty()),
+                    before
+                        .mailboxes()
+                        .values()
+                        .any(|mailbox| !mailbox.is_empty()),
                     "terminates while its messages are queued or others wait",
                 );
             }
             Call::RemoveMailbox { number } if accepted(outcome) => {
                 let mut any = false;
-                for message in self.uncollected.values_mut().filter(|message| message.mailbox == number) {
+                for message in self
+                    .uncollected
+                    .values_mut()
+                    .filter(|message| message.mailbox == number)
+                {
                     message.removed = true;
                     any = true;
                 }
-                self.note(any, "mailbox removed while a message from it is not collected");
+                self.note(
+                    any,
+                    "mailbox removed while a message from it is not collected",
+                );
             }
             Call::Collect { .. } => self.note_collect(outcome),
             Call::Tick => self.note_tick(before, outcome, after),
             Call::SetTicks { n } if accepted(outcome) => {
                 let passed = |state: &State| matches!(state, State::Asleep { wake } if *wake < n);
-                self.note(before.tasks().values().any(|task| passed(&task.state)), "set_ticks passes wake ticks");
+                self.note(
+                    before.tasks().values().any(|task| passed(&task.state)),
+                    "set_ticks passes wake ticks",
+                );
             }
             _ => {}
         }
@@ -349,21 +417,37 @@ impl Tally {
             _ => None,
         };
         let rows = rows_that_hold(before, call);
-        assert_eq!(rows.first().copied(), answered, "the first row that holds is answered: {call:?}");
+        assert_eq!(
+            rows.first().copied(),
+            answered,
+            "the first row that holds is answered: {call:?}"
+        );
         for &other in rows.iter().skip(1) {
             *self.both.entry((call.name(), rows[0], other)).or_default() += 1;
         }
     }
 
     fn note_state(&mut self, kernel: &Kernel) {
-        self.note(kernel.tasks().len() == usize::from(LAST_TASK) + 1, "63 tasks live");
+        self.note(
+            kernel.tasks().len() == usize::from(LAST_TASK) + 1,
+            "63 tasks live",
+        );
         self.note(kernel.tasks().len() == 1, "no task but task 0");
-        self.note(kernel.mailboxes().len() == usize::from(LAST_MAILBOX) + 1, "32 mailboxes in use");
+        self.note(
+            kernel.mailboxes().len() == usize::from(LAST_MAILBOX) + 1,
+            "32 mailboxes in use",
+        );
         self.note(kernel.mailboxes().is_empty(), "no mailbox");
         let idle = kernel.running() == IDLE;
         self.note(idle, "task 0 runs");
-        self.note(idle && kernel.counts().queued > 0, "task 0 runs while messages are queued");
-        self.note(has_equals(kernel), "a task is ready behind an equally urgent one");
+        self.note(
+            idle && kernel.counts().queued > 0,
+            "task 0 runs while messages are queued",
+        );
+        self.note(
+            has_equals(kernel),
+            "a task is ready behind an equally urgent one",
+        );
         let some = |wanted: fn(&Mailbox) -> bool| kernel.mailboxes().values().any(wanted);
         self.note(
             some(|mailbox| mailbox.queue.len() == 16 && mailbox.mode() == Some(Mode::Wait)),
@@ -373,7 +457,10 @@ impl Tally {
             some(|mailbox| mailbox.queue.len() == 16 && mailbox.mode() == Some(Mode::NoWait)),
             "16 messages of send_no_wait queued in one mailbox",
         );
-        self.note(some(|mailbox| mailbox.receivers.len() == 16), "16 receivers wait at one mailbox");
+        self.note(
+            some(|mailbox| mailbox.receivers.len() == 16),
+            "16 receivers wait at one mailbox",
+        );
         let delivered = |number: &&u8| matches!(kernel.due(**number), Some(Due::Delivery { .. }));
         self.note(
             kernel.tasks().keys().filter(delivered).count() >= 10,
@@ -384,7 +471,14 @@ impl Tally {
         self.note(kernel.ticks() == 0, "counter 0");
     }
 
-    fn note_send(&mut self, before: &Kernel, number: u8, bytes: &[u8], outcome: &Outcome, after: &Kernel) {
+    fn note_send(
+        &mut self,
+        before: &Kernel,
+        number: u8,
+        bytes: &[u8],
+        outcome: &Outcome,
+        after: &Kernel,
+    ) {
         let Some(mailbox) = before.mailboxes().get(&number) else {
             return;
         };
@@ -392,10 +486,22 @@ impl Tally {
         match outcome {
             Outcome::Refused(refusal) => {
                 let (row, units) = (refusal.number(), refusal.units());
-                self.note(row == 12 && mailbox.queue_is_full(), "MIXED at a full mailbox");
-                self.note(row == 16 && mailbox.queue_is_full(), "NUMBERS_SPENT at a full mailbox");
-                self.note(row == 16 && receiver.is_some(), "NUMBERS_SPENT for a waiting receiver");
-                self.note(row == 20 && receiver.is_some(), "STORE_FULL for a waiting receiver");
+                self.note(
+                    row == 12 && mailbox.queue_is_full(),
+                    "MIXED at a full mailbox",
+                );
+                self.note(
+                    row == 16 && mailbox.queue_is_full(),
+                    "NUMBERS_SPENT at a full mailbox",
+                );
+                self.note(
+                    row == 16 && receiver.is_some(),
+                    "NUMBERS_SPENT for a waiting receiver",
+                );
+                self.note(
+                    row == 20 && receiver.is_some(),
+                    "STORE_FULL for a waiting receiver",
+                );
                 if let Some((wanted, free)) = units {
                     self.note(wanted == free + 1, "send wants one unit more than is free");
                     self.note(free > 0, "STORE_FULL with some units free");
@@ -404,17 +510,30 @@ impl Tally {
             Outcome::Answered(answer) => {
                 let displaced = answer.displaced.is_some();
                 let cost = before.store().kind().cost(bytes.len());
-                self.note(!displaced && after.store().free() == 0, "send takes the last unit");
+                self.note(
+                    !displaced && after.store().free() == 0,
+                    "send takes the last unit",
+                );
                 self.note(
                     displaced && before.store().free() < cost,
                     "displaces while less than its cost is free",
                 );
-                self.note(displaced && mailbox.capacity == 1, "displaces at capacity 1");
-                self.note(displaced && mailbox.capacity == 16, "displaces at capacity 16");
+                self.note(
+                    displaced && mailbox.capacity == 1,
+                    "displaces at capacity 1",
+                );
+                self.note(
+                    displaced && mailbox.capacity == 16,
+                    "displaces at capacity 16",
+                );
                 if let (Some(receiver), Some(message)) = (receiver, answer.message) {
                     let runs = after.running() == receiver;
                     self.note(runs, "a receiver runs before the task that sent to it");
-                    let uncollected = Uncollected { mailbox: number, removed: false, late: false };
+                    let uncollected = Uncollected {
+                        mailbox: number,
+                        removed: false,
+                        late: false,
+                    };
                     self.uncollected.insert(message, uncollected);
                 }
             }
@@ -427,7 +546,10 @@ impl Tally {
             return;
         };
         let empty = matches!(outcome, Outcome::Refused(refusal) if refusal.number() == 13);
-        self.note(empty && !mailbox.receivers.is_empty(), "EMPTY where receivers wait");
+        self.note(
+            empty && !mailbox.receivers.is_empty(),
+            "EMPTY where receivers wait",
+        );
         let sender = mailbox.queue.front().and_then(|oldest| oldest.sender);
         let taken = matches!(outcome, Outcome::Brought(..));
         self.note(
@@ -452,9 +574,15 @@ impl Tally {
         let Outcome::Brought(answer, _) = outcome else {
             return;
         };
-        if let Some(message) = answer.message.and_then(|message| self.uncollected.remove(&message)) {
+        if let Some(message) = answer
+            .message
+            .and_then(|message| self.uncollected.remove(&message))
+        {
             self.note(message.removed, "collects a message of a removed mailbox");
-            self.note(message.late, "collects after the deadline was reached meanwhile");
+            self.note(
+                message.late,
+                "collects after the deadline was reached meanwhile",
+            );
         }
     }
 
@@ -463,13 +591,18 @@ impl Tally {
             return;
         };
         self.note(readied >= 2, "tick readies two or more");
-        self.note(readied > 0 && before.ticks() == TOP, "tick at counter TOP readies");
+        self.note(
+            readied > 0 && before.ticks() == TOP,
+            "tick at counter TOP readies",
+        );
         let now = after.ticks();
         let mut woken = Vec::new();
         for (&number, task) in before.tasks() {
             let reached = task.deadline <= now;
             match task.state {
-                State::Ready { due: Some(Due::Delivery { message }) } if reached => {
+                State::Ready {
+                    due: Some(Due::Delivery { message }),
+                } if reached => {
                     if let Some(message) = self.uncollected.get_mut(&message) {
                         message.late = true;
                     }
@@ -477,7 +610,10 @@ impl Tally {
                 State::Ready { .. } => {}
                 waiting => {
                     self.note(task.deadline == now, "tick reaches a deadline just now");
-                    self.note(now < TOP && task.deadline == now + 1, "tick leaves a deadline one above");
+                    self.note(
+                        now < TOP && task.deadline == now + 1,
+                        "tick leaves a deadline one above",
+                    );
                     self.note_end_of_waiting(before, number, waiting, reached, now);
                     if after.due(number).is_some() {
                         woken.push(number);
@@ -485,22 +621,40 @@ impl Tally {
                 }
             }
         }
-        let equals = woken.windows(2).any(|pair| are_equal(after, pair[0], pair[1]));
+        let equals = woken
+            .windows(2)
+            .any(|pair| are_equal(after, pair[0], pair[1]));
         self.note(equals, "tick readies equally urgent ones");
     }
 
-    fn note_end_of_waiting(&mut self, before: &Kernel, number: u8, state: State, reached: bool, now: u32) {
+    fn note_end_of_waiting(
+        &mut self,
+        before: &Kernel,
+        number: u8,
+        state: State,
+        reached: bool,
+        now: u32,
+    ) {
         match state {
             State::Asleep { wake } => {
-                self.note(reached && wake <= now, "tick reaches deadline and wake tick of one");
+                self.note(
+                    reached && wake <= now,
+                    "tick reaches deadline and wake tick of one",
+                );
             }
             State::Sending { mailbox, message } => {
                 let oldest = before.mailboxes()[&mailbox].queue[0].message;
-                self.note(reached && message != oldest, "tick withdraws a message that is not the oldest");
+                self.note(
+                    reached && message != oldest,
+                    "tick withdraws a message that is not the oldest",
+                );
             }
             State::Receiving { mailbox } => {
                 let oldest = before.mailboxes()[&mailbox].receivers[0];
-                self.note(reached && number != oldest, "tick ends a receiver that is not the oldest");
+                self.note(
+                    reached && number != oldest,
+                    "tick ends a receiver that is not the oldest",
+                );
             }
             State::Ready { .. } => {}
         }
@@ -536,7 +690,10 @@ fn has_equals(kernel: &Kernel) -> bool {
     let ready = |number: &&u8| matches!(kernel.tasks()[*number].state, State::Ready { .. });
     let running = kernel.running();
     let others = kernel.tasks().keys().filter(ready);
-    running != IDLE && others.into_iter().any(|&other| other != running && are_equal(kernel, running, other))
+    running != IDLE
+        && others
+            .into_iter()
+            .any(|&other| other != running && are_equal(kernel, running, other))
 }
 
 #[test]
@@ -559,19 +716,31 @@ fn check_forms(tally: &Tally, seed: u64) {
     let expected = expected();
     for pair in &expected {
         let times = tally.forms.get(pair).copied().unwrap_or(0);
-        assert!(times >= OFTEN, "seed {seed}: {pair:?} is met {times} times only");
+        assert!(
+            times >= OFTEN,
+            "seed {seed}: {pair:?} is met {times} times only"
+        );
     }
     for (pair, times) in &tally.forms {
-        let once = ONCE.iter().any(|(call, form)| (*call, *form) == (&pair.0, &pair.1));
-        assert!(expected.contains(pair) || (once && *times == 1), "{pair:?} is in no table");
+        let once = ONCE
+            .iter()
+            .any(|(call, form)| (*call, *form) == (&pair.0, &pair.1));
+        assert!(
+            expected.contains(pair) || (once && *times == 1),
+            "{pair:?} is in no table"
+        );
     }
 }
 
 fn check_deep_states(tally: &Tally, seed: u64) {
     for (&name, &times) in &tally.deep {
         // In the slot store each message costs one unit, so none is left where it is full.
-        let impossible = name == "STORE_FULL with some units free" && kind_of_seed(seed).0 == StoreKind::Slot;
-        assert!(impossible || times >= 10, "seed {seed}: {name} is met {times} times only");
+        let impossible =
+            name == "STORE_FULL with some units free" && kind_of_seed(seed).0 == StoreKind::Slot;
+        assert!(
+            impossible || times >= 10,
+            "seed {seed}: {name} is met {times} times only"
+        );
     }
 }
 
@@ -580,7 +749,10 @@ fn check_both(all_both: &BTreeMap<(&str, u8, u8), u64>) {
     for (call, pairs) in BOTH_HOLD {
         for &(row, other) in pairs {
             let times = all_both.get(&(call, row, other)).copied().unwrap_or(0);
-            assert!(times >= 10, "{call} meets {row} and {other} at once {times} times only");
+            assert!(
+                times >= 10,
+                "{call} meets {row} and {other} at once {times} times only"
+            );
         }
     }
 }

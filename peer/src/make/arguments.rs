@@ -14,7 +14,11 @@ impl Maker {
             2 => self.random.one_of(&[0, 64, 65, 128, 255]),
             _ => self.random.one_of(&[1, 31, 32, 62, 63]),
         };
-        Call::CreateTask { number, deadline: self.some_deadline(), level: self.some_level() }
+        Call::CreateTask {
+            number,
+            deadline: self.some_deadline(),
+            level: self.some_level(),
+        }
     }
 
     pub(super) fn living_tasks(&self) -> Vec<u8> {
@@ -23,7 +27,9 @@ impl Maker {
 
     pub(super) fn unused_task(&mut self) -> Option<u8> {
         let tasks = self.kernel().tasks();
-        let unused: Vec<u8> = (1..=LAST_TASK).filter(|number| !tasks.contains_key(number)).collect();
+        let unused: Vec<u8> = (1..=LAST_TASK)
+            .filter(|number| !tasks.contains_key(number))
+            .collect();
         self.random.pick(&unused)
     }
 
@@ -50,7 +56,11 @@ impl Maker {
             _ => self.bad_mailbox(),
         };
         let (capacity, size) = self.some_shape();
-        Call::CreateMailbox { number, capacity, size }
+        Call::CreateMailbox {
+            number,
+            capacity,
+            size,
+        }
     }
 
     pub(super) fn some_shape(&mut self) -> (u8, u8) {
@@ -75,7 +85,10 @@ impl Maker {
     }
 
     pub(super) fn good_shape(&mut self) -> (u8, u8) {
-        (self.random.one_of(&[1, 1, 2, 3, 16]), self.random.between(1, 128) as u8)
+        (
+            self.random.one_of(&[1, 1, 2, 3, 16]),
+            self.random.between(1, 128) as u8,
+        )
     }
 
     pub(super) fn remove_mailbox(&mut self) -> Call {
@@ -85,12 +98,17 @@ impl Maker {
             2 => self.unused_mailbox(),
             _ => Some(self.bad_mailbox()),
         };
-        Call::RemoveMailbox { number: found.unwrap_or_else(|| self.any_mailbox()) }
+        Call::RemoveMailbox {
+            number: found.unwrap_or_else(|| self.any_mailbox()),
+        }
     }
 
     pub(super) fn mailbox_where(&mut self, wanted: impl Fn(&Mailbox) -> bool) -> Option<u8> {
         let all = self.kernel().mailboxes().iter();
-        let found: Vec<u8> = all.filter(|(_, mailbox)| wanted(mailbox)).map(|(&number, _)| number).collect();
+        let found: Vec<u8> = all
+            .filter(|(_, mailbox)| wanted(mailbox))
+            .map(|(&number, _)| number)
+            .collect();
         self.random.pick(&found)
     }
 
@@ -101,13 +119,17 @@ impl Maker {
         }
         let entries = |mailbox: &Mailbox| mailbox.queue.len() + mailbox.receivers.len();
         let all = self.kernel().mailboxes().iter();
-        let found = all.filter(|(_, mailbox)| wanted(mailbox)).max_by_key(|(_, mailbox)| entries(mailbox));
+        let found = all
+            .filter(|(_, mailbox)| wanted(mailbox))
+            .max_by_key(|(_, mailbox)| entries(mailbox));
         found.map(|(&number, _)| number)
     }
 
     pub(super) fn unused_mailbox(&mut self) -> Option<u8> {
         let mailboxes = self.kernel().mailboxes();
-        let unused: Vec<u8> = (0..=LAST_MAILBOX).filter(|number| !mailboxes.contains_key(number)).collect();
+        let unused: Vec<u8> = (0..=LAST_MAILBOX)
+            .filter(|number| !mailboxes.contains_key(number))
+            .collect();
         self.random.pick(&unused)
     }
 
@@ -116,7 +138,8 @@ impl Maker {
     }
 
     pub(super) fn any_mailbox(&mut self) -> u8 {
-        self.mailbox_where(|_| true).unwrap_or_else(|| self.random.between(0, u32::from(LAST_MAILBOX)) as u8)
+        self.mailbox_where(|_| true)
+            .unwrap_or_else(|| self.random.between(0, u32::from(LAST_MAILBOX)) as u8)
     }
 }
 
@@ -140,7 +163,8 @@ impl Maker {
         let found = match self.random.weighted(&weights) {
             0 => self.mailbox_where(|mailbox| !mailbox.receivers.is_empty()),
             1 => self.fullest_where(|mailbox| has_room(mailbox, mode)),
-            2 => self.mailbox_where(|mailbox| mailbox.mode() == Some(mode) && mailbox.queue_is_full()),
+            2 => self
+                .mailbox_where(|mailbox| mailbox.mode() == Some(mode) && mailbox.queue_is_full()),
             3 => self.mailbox_where(|mailbox| mailbox.mode().is_some_and(|queued| queued != mode)),
             4 => self.unused_mailbox(),
             5 => Some(self.bad_mailbox()),
@@ -175,7 +199,10 @@ impl Maker {
 
     /// The message size of a mailbox, or some size where none is in use.
     pub(super) fn size_of(&self, number: u8) -> u32 {
-        self.kernel().mailboxes().get(&number).map_or(4, |mailbox| mailbox.size as u32)
+        self.kernel()
+            .mailboxes()
+            .get(&number)
+            .map_or(4, |mailbox| mailbox.size as u32)
     }
 
     pub(super) fn receive(&mut self, mode: Mode) -> Call {
@@ -197,7 +224,8 @@ impl Maker {
         };
         let found = match self.random.weighted(&weights) {
             0 => self.mailbox_where(|mailbox| !mailbox.queue.is_empty()),
-            1 => self.fullest_where(|mailbox| mailbox.queue.is_empty() && !mailbox.receivers_are_full()),
+            1 => self
+                .fullest_where(|mailbox| mailbox.queue.is_empty() && !mailbox.receivers_are_full()),
             2 => self.mailbox_where(Mailbox::receivers_are_full),
             3 => self.mailbox_where(Mailbox::is_empty),
             4 => self.unused_mailbox(),
@@ -231,7 +259,10 @@ impl Maker {
     pub(super) fn receive_some_message(&mut self) -> Call {
         let found = self.mailbox_where(|mailbox| !mailbox.queue.is_empty());
         let number = found.unwrap_or_else(|| self.any_mailbox());
-        Call::ReceiveNoWait { number, length: self.size_of(number) }
+        Call::ReceiveNoWait {
+            number,
+            length: self.size_of(number),
+        }
     }
 
     pub(super) fn collect(&mut self, due: Option<Due>) -> Call {
@@ -239,7 +270,9 @@ impl Maker {
             Some(Due::Delivery { message }) => self.kernel().store().length(message).unwrap_or(0),
             _ => 0,
         };
-        Call::Collect { length: self.buffer_length(size as u32) }
+        Call::Collect {
+            length: self.buffer_length(size as u32),
+        }
     }
 }
 
@@ -274,14 +307,24 @@ impl Maker {
         let taken = self.random.one_of(&self.living_tasks());
         let number = self.random.one_of(&[taken, 0, 64, 255]);
         let level = self.random.one_of(&[31, 32, 255]);
-        Call::CreateTask { number, deadline: self.some_deadline(), level }
+        Call::CreateTask {
+            number,
+            deadline: self.some_deadline(),
+            level,
+        }
     }
 
     fn clashing_create_mailbox(&mut self) -> Call {
         let taken = self.any_mailbox();
         let number = self.random.one_of(&[taken, taken, 32, 255]);
-        let (capacity, size) = self.random.one_of(&[(1, 1), (0, 1), (17, 128), (16, 0), (16, 129), (0, 0)]);
-        Call::CreateMailbox { number, capacity, size }
+        let (capacity, size) =
+            self.random
+                .one_of(&[(1, 1), (0, 1), (17, 128), (16, 0), (16, 129), (0, 0)]);
+        Call::CreateMailbox {
+            number,
+            capacity,
+            size,
+        }
     }
 
     /// A send to a mailbox that is full, holds the other mode or is none, at times with bytes of another size.
@@ -290,11 +333,16 @@ impl Maker {
             0 => Some(self.bad_mailbox()),
             1 => self.unused_mailbox(),
             2 => self.mailbox_where(|mailbox| mailbox.mode().is_some_and(|queued| queued != mode)),
-            _ => self.mailbox_where(|mailbox| mailbox.queue_is_full() && mailbox.mode() == Some(mode)),
+            _ => self
+                .mailbox_where(|mailbox| mailbox.queue_is_full() && mailbox.mode() == Some(mode)),
         };
         let number = found.unwrap_or_else(|| self.any_mailbox());
         let size = self.size_of(number);
-        let length = if self.random.percent(30) { self.random.one_of(&[0, size - 1, size + 1]) } else { size };
+        let length = if self.random.percent(30) {
+            self.random.one_of(&[0, size - 1, size + 1])
+        } else {
+            size
+        };
         let bytes = self.some_bytes(length);
         send_call(mode, number, bytes)
     }
@@ -337,7 +385,12 @@ impl Maker {
     }
 
     /// A number, or one up to so much below or above it.
-    pub(super) fn beside(&mut self, below: u32, above: u32, number: impl FnOnce(&mut Maker) -> u32) -> u32 {
+    pub(super) fn beside(
+        &mut self,
+        below: u32,
+        above: u32,
+        number: impl FnOnce(&mut Maker) -> u32,
+    ) -> u32 {
         let number = number(self);
         let shifted = u64::from(number) + u64::from(self.random.between(0, below + above));
         shifted.saturating_sub(u64::from(below)).min(u64::from(TOP)) as u32

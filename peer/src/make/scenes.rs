@@ -47,7 +47,11 @@ impl Maker {
         let Some(number) = self.plan_room_for_mailbox() else {
             return;
         };
-        self.plan.push_back(Call::CreateMailbox { number, capacity, size });
+        self.plan.push_back(Call::CreateMailbox {
+            number,
+            capacity,
+            size,
+        });
         for _ in 0..sends {
             let bytes = self.some_bytes(u32::from(size));
             self.plan.push_back(send_call(mode, number, bytes));
@@ -69,7 +73,11 @@ impl Maker {
     /// that leave few.
     pub(super) fn plan_last_units(&mut self) {
         let free = self.kernel().store().free();
-        let mode = if self.random.percent(80) { Mode::NoWait } else { Mode::Wait };
+        let mode = if self.random.percent(80) {
+            Mode::NoWait
+        } else {
+            Mode::Wait
+        };
         let capacity = self.random.one_of(&[1, 2, 16]);
         match self.kernel().store().kind() {
             StoreKind::Slot => {
@@ -83,7 +91,11 @@ impl Maker {
             }
             StoreKind::Packed if free <= 16 + 128 => {
                 let exact = (free - 16) as u8;
-                let size = if self.random.percent(60) { exact } else { (exact + 1).min(128) };
+                let size = if self.random.percent(60) {
+                    exact
+                } else {
+                    (exact + 1).min(128)
+                };
                 self.plan_mailbox_with_messages(capacity, size, mode, 1);
             }
             StoreKind::Packed => {
@@ -98,7 +110,11 @@ impl Maker {
     /// it may not be collected yet.
     fn plan_new_mailbox_after_delivery(&mut self) {
         let empty = |maker: &Maker, number: &u8| {
-            maker.kernel().mailboxes().get(number).is_some_and(Mailbox::is_empty)
+            maker
+                .kernel()
+                .mailboxes()
+                .get(number)
+                .is_some_and(Mailbox::is_empty)
         };
         let delivered = self.last_delivery.filter(|number| empty(self, number));
         let Some(number) = delivered.or_else(|| self.mailbox_where(Mailbox::is_empty)) else {
@@ -107,7 +123,11 @@ impl Maker {
         self.plan.push_back(Call::RemoveMailbox { number });
         if self.random.percent(70) {
             let (capacity, size) = self.good_shape();
-            self.plan.push_back(Call::CreateMailbox { number, capacity, size });
+            self.plan.push_back(Call::CreateMailbox {
+                number,
+                capacity,
+                size,
+            });
             let bytes = self.some_bytes(u32::from(size));
             self.plan.push_back(send_call(Mode::NoWait, number, bytes));
         }
@@ -117,7 +137,11 @@ impl Maker {
     fn plan_edge_of_time(&mut self) {
         let event = self.some_event().unwrap_or(TOP);
         let before = event.saturating_sub(self.random.between(0, 2));
-        let n = if self.numbers_are_spent() { self.some_tick() } else { before };
+        let n = if self.numbers_are_spent() {
+            self.some_tick()
+        } else {
+            before
+        };
         self.plan.push_back(Call::SetTicks { n });
         self.plan.extend([Call::Tick, Call::Running, Call::Tick]);
     }
@@ -126,18 +150,32 @@ impl Maker {
     fn plan_new_task_of_same_number(&mut self) {
         let number = self.kernel().running();
         let (deadline, level) = (self.some_deadline(), self.some_level());
-        self.plan.extend([Call::Terminate, Call::CreateTask { number, deadline, level }, Call::Running]);
+        self.plan.extend([
+            Call::Terminate,
+            Call::CreateTask {
+                number,
+                deadline,
+                level,
+            },
+            Call::Running,
+        ]);
     }
 
     /// A mailbox with room for few messages gets more of them, and one of the other mode.
     fn plan_displacing(&mut self) {
-        let (capacity, size) = (self.random.one_of(&[1, 1, 2, 3]), self.random.between(1, 64) as u8);
+        let (capacity, size) = (
+            self.random.one_of(&[1, 1, 2, 3]),
+            self.random.between(1, 64) as u8,
+        );
         let sends = u32::from(capacity) + self.random.between(1, 3);
         self.plan_mailbox_with_messages(capacity, size, Mode::NoWait, sends);
         if let Some(&Call::SendNoWait { number, .. }) = self.plan.back() {
             let bytes = self.some_bytes(u32::from(size));
             self.plan.push_back(send_call(Mode::Wait, number, bytes));
-            self.plan.push_back(Call::ReceiveNoWait { number, length: u32::from(size) });
+            self.plan.push_back(Call::ReceiveNoWait {
+                number,
+                length: u32::from(size),
+            });
         }
     }
 
@@ -145,7 +183,11 @@ impl Maker {
     fn plan_deliveries(&mut self) {
         if self.random.one_in(2) || self.kernel().running() == IDLE {
             if let Some(number) = self.unused_task() {
-                self.plan.push_back(Call::CreateTask { number, deadline: 0, level: 0 });
+                self.plan.push_back(Call::CreateTask {
+                    number,
+                    deadline: 0,
+                    level: 0,
+                });
             }
         } else {
             self.plan.push_back(Call::SetDeadline { n: 0 });
@@ -156,7 +198,11 @@ impl Maker {
             };
             let mailbox = &self.kernel().mailboxes()[&number];
             let (size, receivers) = (mailbox.size as u32, mailbox.receivers.len());
-            let mode = if self.random.percent(70) { Mode::NoWait } else { Mode::Wait };
+            let mode = if self.random.percent(70) {
+                Mode::NoWait
+            } else {
+                Mode::Wait
+            };
             for _ in 0..receivers {
                 let bytes = self.some_bytes(size);
                 self.plan.push_back(send_call(mode, number, bytes));
@@ -170,7 +216,9 @@ impl Maker {
         let n = self.beside(2, 1, |_| now);
         self.plan.push_back(Call::SetDeadline { n });
         let call = match self.random.below(3) {
-            0 => Call::Wait { n: self.time_to_wait() },
+            0 => Call::Wait {
+                n: self.time_to_wait(),
+            },
             1 => self.receive(Mode::Wait),
             _ => self.send(Mode::Wait),
         };
@@ -182,14 +230,18 @@ impl Maker {
         let now = self.kernel().ticks();
         let n = self.random.between(1, 4);
         let deadline = self.beside(1, 1, |_| now.saturating_add(n));
-        self.plan.extend([Call::SetDeadline { n: deadline }, Call::Wait { n }]);
+        self.plan
+            .extend([Call::SetDeadline { n: deadline }, Call::Wait { n }]);
         let ticks = if self.random.one_in(2) { n } else { 1 };
         self.plan.extend((0..ticks).map(|_| Call::Tick));
     }
 
     /// More tasks send to a new mailbox, and wait, than it has room for.
     fn plan_crowd(&mut self) {
-        let (capacity, size) = (self.random.one_of(&[1, 2, 4, 16]), self.random.one_of(&[1, 2, 32, 128]));
+        let (capacity, size) = (
+            self.random.one_of(&[1, 2, 4, 16]),
+            self.random.one_of(&[1, 2, 32, 128]),
+        );
         let sends = u32::from(capacity) + self.random.between(0, 2);
         self.plan_mailbox_with_messages(capacity, size, Mode::Wait, sends);
     }
