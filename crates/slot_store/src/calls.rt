@@ -101,7 +101,7 @@ impl Store for SlotStore {
     }
 
     fn clear(&mut self) {
-        empty_all(&mut self.slots);
+        empty_all(&mut self.slots, self.used);
         self.used = 0;
     }
 }

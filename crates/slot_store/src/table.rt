@@ -10,8 +10,7 @@ pub(crate) const SLOTS: usize = 64;
 #[derive(Drop)]
 pub struct SlotStore {
     pub(crate) slots: [Option<Message>; SLOTS],
-    // Kept beside the slots: to count them, each `used` would look at all 64, as `clear` does, which takes 186
-    // instructions where all are free.
+    // Kept beside the slots: to count them, each `used` would look at all 64, and `clear` stops once it has freed so many.
     pub(crate) used: u32,
     ghost whole: { length slots ≡ 64 },
     ghost once: { distinct (messages slots) ≡ true },

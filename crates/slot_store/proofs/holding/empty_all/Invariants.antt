@@ -1,7 +1,8 @@
--- The slots passed so far hold nothing.
-use Rattle.std.proofs.Common.{◌≡◌, [], take}
-use Rattle.slot_store.specs.Slots.{messages}
+-- The slots passed so far hold nothing, and as many messages are left as those behind them hold.
+use Rattle.std.proofs.Common.{◌≡◌, [], take, drop}
+use Rattle.store.specs.Listing.{total}
+use Rattle.slot_store.specs.Slots.{messages, one_unit}
 use Rattle.slot_store.proofs.holding.empty_all.Given as goal
 
 abbrev pub invariant-loop-slot : goal.invariant-loop-slot
-invariant-loop-slot l = messages (take l.slot-index l.slots) ≡ []
+invariant-loop-slot l = (messages (take l.slot-index l.slots) ≡ []) × (l.left ≡ total one_unit (messages (drop l.slot-index l.slots)))
