@@ -3,7 +3,7 @@ ghost use Rattle.std.specs.Prelude.{◌≡◌, ◌-◌, Some};
 ghost use Rattle.answers.specs.Answers.{status_text, answer_text, counts_text, field_text};
 ghost use Rattle.answers.specs.Counts.{count_accepted, count_displaced, count_handed_over, count_withdrawn, no_message, one_more};
 
-use std::fmt;
+use std::fmt::{self, Display};
 
 #[derive(Clone, Copy, Debug, PartialEq, Eq)]
 pub enum Status {
@@ -102,13 +102,15 @@ impl fmt::Display for Status {
     }
 }
 
-// A field of an answer and its number, or nothing where it is absent.
+// A field of an answer and its number, or nothing where it is absent. Always inlined, as the print of a refusal is (crate
+// `store`): where the caller's formatter isn't known, each piece costs some three times as much.
 #[derive(Clone, Copy)]
 struct Field(&'static str, Option<u64>);
 
 impl fmt::Display for Field {
     ghost output = { λ x. Some (field_text x.0.now x.1) };
 
+    #[inline(always)]
     fn fmt<W: fmt::Write>(&self, f: &mut fmt::Formatter<W>) -> fmt::Result {
         match self.1 {
             Some(number) => write!(f, "{}{number}", self.0),
@@ -121,11 +123,11 @@ impl fmt::Display for Answer {
     ghost output = { λ x. Some (answer_text x) };
 
     fn fmt<W: fmt::Write>(&self, f: &mut fmt::Formatter<W>) -> fmt::Result {
-        let message = Field(" message=", self.message.map(u64::from));
+        self.status.fmt(f)?;
+        Field(" message=", self.message.map(u64::from)).fmt(f)?;
         // A cast, since from usize there is no `From`, and `try_from(..).unwrap()` is no plainer.
-        let length = Field(" length=", self.length.map(|n| n as u64));
-        let displaced = Field(" displaced=", self.displaced.map(u64::from));
-        write!(f, "{}{message}{length}{displaced}", self.status)
+        Field(" length=", self.length.map(|n| n as u64)).fmt(f)?;
+        Field(" displaced=", self.displaced.map(u64::from)).fmt(f)
     }
 }
 

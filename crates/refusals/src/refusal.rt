@@ -4,7 +4,7 @@ ghost use Rattle.refusals.specs.Refusals.{number_of, name_of, layer_of, place_of
 
 use answers::{MailboxNumber, TaskNumber};
 use std::error::Error;
-use std::fmt;
+use std::fmt::{self, Display};
 use store::{Layer, Particulars, StoreFault, Units};
 
 // One case for each row of the table of refusals; SHORT_BUFFER has two, since its place differs.
@@ -119,7 +119,7 @@ impl fmt::Display for Refusal {
     ghost output = { λ x. Some (printed x) };
 
     fn fmt<W: fmt::Write>(&self, f: &mut fmt::Formatter<W>) -> fmt::Result {
-        write!(f, "{}", self.particulars())
+        self.particulars().fmt(f)
     }
 }
 

