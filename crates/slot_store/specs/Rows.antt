@@ -141,12 +141,12 @@ less xs ys i n once at' ch =
       next = λ m. rw (new, old) (lookup_removed front back e m once');
     }
 
--- a loop that leaves each slot free
+-- a loop that leaves each slot free; the one of this crate stops earlier, and does without it
 pub empty_more : (xs : List Slot) (i : ℕ) (y : Slot) → i < length xs → messages (take i xs) ≡ [] → held_by y ≡ [] → messages (take (i + 1) (slice_set xs i y)) ≡ []
 empty_more xs i y h none is =
     ap messages (take_more_set xs i y h) ∙ sym (flat_map_more held_by [] (take i xs) y) ∙ rw (none, is)
 
--- such a loop ends where no message is left behind a place
+-- a loop that frees slots may end where no slot behind it holds a message
 none_left : (xs : List Slot) → total one_unit (messages xs) ≡ 0 → messages xs ≡ []
 none_left [] h = refl
 none_left (None ∷ xs) h = none_left xs h
@@ -157,13 +157,6 @@ emptied xs zero h left = none_left xs left
 emptied [] (suc i) h left = refl
 emptied (None ∷ xs) (suc i) h left = emptied xs i h left
 emptied (Some m ∷ xs) (suc i) h left = absurd (omega (arith, ap length h))
-
--- what is left from a place on: the message there, and what is left behind it
-pub left_from : (xs : List Slot) (i : ℕ) (d y : Slot) → i < length xs → total one_unit (messages (drop i xs)) ≡ total one_unit (held_by (slice_index_or xs i d)) + total one_unit (messages (drop (suc i) (slice_set xs i y)))
-left_from [] i d y h = absurd (omega arith)
-left_from (None ∷ xs) zero d y h = omega arith
-left_from (Some m ∷ xs) zero d y h = omega arith
-left_from (x ∷ xs) (suc i) d y h = left_from xs i d y (omega arith)
 
 -- what is held has a number and a length that are allowed
 pub held_allowed : (n : ℕ) (b : List ℕ) (xs : List Slot) → lookup (messages xs) n ≡ Some b → (n ≤ 4294967295) × Allowed (length b)

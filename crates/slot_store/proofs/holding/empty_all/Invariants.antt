@@ -1,4 +1,4 @@
--- The slots passed so far hold nothing, and as many messages are left as those behind them hold.
+-- The slots passed so far hold nothing, and `left` is how many of those behind them hold a message.
 use Rattle.std.proofs.Common.{◌≡◌, [], take, drop}
 use Rattle.store.specs.Listing.{total}
 use Rattle.slot_store.specs.Slots.{messages, one_unit}
